@@ -12,7 +12,7 @@ use Rattle.pot_refinement.specs.Refinement.{Simulates, used_after, used_by_all, 
 use Rattle.pot_refinement.proofs.Simulating.{follows_all}
 
 -- acts of groups, by number, as moves
-pub makes : List (ℕ × Act) → List Move
+unfoldable pub makes : List (ℕ × Act) → List Move
 makes ms = map (λ x. Makes x.0 x.1) ms
 
 pub first : List Act → List (ℕ × Act)

@@ -31,12 +31,12 @@ use Rattle.pot_world.proofs.Later.{first_reopened, of_listed, of_unlisted}
 use Rattle.pot_refinement.specs.Refinement.{AllWentWell, AreNew, EachRan, IsEmpty, IsNew, Past, SimulateNew, all_ran, used_by_each, used_since}
 use Rattle.pot_refinement.proofs.Ended.{all_used, all_well, first_session}
 use Rattle.pot_refinement.proofs.Executions.{makes, site}
-use Rattle.pot_theorem.specs.Sessions.{Closed, GoOn, GoesOn, HasOnlyLost, IsFirst, IsUndisturbed, came_in, last_session, many_archives, named_in}
+use Rattle.pot_theorem.specs.Sessions.{ClosedSession, AllSucceed, Succeeds, HasOnlyLost, IsFirst, IsUndisturbed, new_archives, last_session, many_archives, first_archives}
 use Rattle.pot_theorem.proofs.Between.{AllBegun, Begun, go_all, kept_state}
 use Rattle.pot_theorem.proofs.Groups.{Asks, One, Ones, all_went, came_of, empty_then, had_here, had_there, heard_then, named_of, ones_of, past_of, pasts_of, reads, logs, writtens, shown, since, took}
 
 -- the groups of a session
-abbrev pub all_of : (c : Closed) → List (One c)
+abbrev pub all_of : (c : ClosedSession) → List (One c)
 all_of c = (ones_of c).all
 
 -- WHAT A TABLE NAMES, ITS GROUP HAS HAD
@@ -87,7 +87,7 @@ HasColumns t = length t.columns ≡ width t
 
 -- A NEXT GROUP
 
-module _ (c d : Closed) (o : One c) (q : One d) (same : q.read ≡ o.written) (columns : HasColumns o.read)
+module _ (c d : ClosedSession) (o : One c) (q : One d) (same : q.read ≡ o.written) (columns : HasColumns o.read)
     (back : (n : ℕ) → Contains (archives_in o.read ++ arrivals o.log) n → times n c.missing ≡ 0)
     (kept : (n : ℕ) → Contains (archives_in q.read) n → HasOnlyLost (c.room.after.means n) (d.room.before.means n)) where
   first_same : q.left.view.first ≡ still o.left.view.table
@@ -139,7 +139,7 @@ module _ (c d : Closed) (o : One c) (q : One d) (same : q.read ≡ o.written) (c
 
 -- ALL NEXT GROUPS
 
-all_begun : (c d : Closed) (os : List (One c)) (qs : List (One d)) → reads d qs ≡ writtens c os
+pub all_begun : (c d : ClosedSession) (os : List (One c)) (qs : List (One d)) → reads d qs ≡ writtens c os
     → ((g : ℕ) (t : Table) → slice_get (reads c os) g ≡ Some t → HasColumns t)
     → ((n : ℕ) → Contains (named_of c os) n ⊎ Contains (came_of c os) n → times n c.missing ≡ 0)
     → ((n : ℕ) → Contains (named_of d qs) n → HasOnlyLost (c.room.after.means n) (d.room.before.means n)) → AllBegun (pasts_of c os) (pasts_of d qs)

@@ -24,41 +24,41 @@ use Rattle.pot_execution.specs.Execution.{FailedInOpening}
 use Rattle.pot_world.specs.Acts.{with_use}
 use Rattle.pot_refinement.specs.Refinement.{AllWentWell, ComeEmpty, IsEmpty, Past, WentWell, is_clean, used_since, with_uses}
 use Rattle.pot_session.specs.Serving.{IsInRoom, came_by}
-use Rattle.pot_theorem.specs.Sessions.{Closed}
+use Rattle.pot_theorem.specs.Sessions.{ClosedSession}
 
 -- A GROUP
 
 -- a group that a session left
-pub record One (c : Closed) : Type 0 where
+pub record One (c : ClosedSession) : Type 0 where
   pub read : Table
   pub log : List Entry
   pub written : Table
   pub left : LeavesGroup (IsTrue c.room.tells) c.room.before.means (IsInRoom (IsTrue c.room.tells) c.room.after.means c.missing) read log written
 
-abbrev pub past_of : (c : Closed) → One c → Past
+abbrev pub past_of : (c : ClosedSession) → One c → Past
 past_of c o = record { view = o.left.view; execution = o.left.execution c.told }
 
-abbrev pub pasts_of : (c : Closed) → List (One c) → List Past
+abbrev pub pasts_of : (c : ClosedSession) → List (One c) → List Past
 pasts_of c os = map (past_of c) os
 
-abbrev pub reads : (c : Closed) → List (One c) → List Table
+abbrev pub reads : (c : ClosedSession) → List (One c) → List Table
 reads c os = map (λ o. o.read) os
 
-abbrev pub logs : (c : Closed) → List (One c) → List (List Entry)
+abbrev pub logs : (c : ClosedSession) → List (One c) → List (List Entry)
 logs c os = map (λ o. o.log) os
 
-abbrev pub writtens : (c : Closed) → List (One c) → List Table
+abbrev pub writtens : (c : ClosedSession) → List (One c) → List Table
 writtens c os = map (λ o. o.written) os
 
 -- ALL OF THEM
 
-pub record Ones (c : Closed) (ts : List Table) (ls : List (List Entry)) (us : List Table) : Type 0 where
+pub record Ones (c : ClosedSession) (ts : List Table) (ls : List (List Entry)) (us : List Table) : Type 0 where
   pub all : List (One c)
   pub are_read : reads c all ≡ ts
   pub are_logs : logs c all ≡ ls
   pub are_written : writtens c all ≡ us
 
-gather : (c : Closed) (ts : List Table) (ls : List (List Entry)) (us : List Table) → length us ≡ length ts → length ls ≡ length ts
+gather : (c : ClosedSession) (ts : List Table) (ls : List (List Entry)) (us : List Table) → length us ≡ length ts → length ls ≡ length ts
     → ((g : ℕ) (t u : Table) (log : List Entry) → slice_get ts g ≡ Some t → slice_get us g ≡ Some u → slice_get ls g ≡ Some log
     → LeavesGroup (IsTrue c.room.tells) c.room.before.means (IsInRoom (IsTrue c.room.tells) c.room.after.means c.missing) t log u) → Ones c ts ls us
 gather c [] [] [] long long2 each = record { all = []; are_read = refl; are_logs = refl; are_written = refl }
@@ -75,12 +75,12 @@ gather c (t ∷ ts) (l ∷ ls) (u ∷ us) long long2 each =
       are_written = ap (λ xs. u ∷ xs) rest.are_written;
     }
 
-pub ones_of : (c : Closed) → Ones c c.first.tables c.last.group_logs c.last.tables
+pub ones_of : (c : ClosedSession) → Ones c c.first.tables c.last.group_logs c.last.tables
 ones_of c = gather c c.first.tables c.last.group_logs c.last.tables c.leaves.groups.count c.leaves.groups.count_logs c.leaves.groups.each
 
 -- WHAT IS SAID OF ONE
 
-module _ (c : Closed) (o : One c) where
+module _ (c : ClosedSession) (o : One c) where
   -- the archives that it has had
   pub had_here : (n : ℕ) → Contains (archives_in o.read ++ arrivals o.log) n → Contains (had_by o.left.view) n
   had_here n h = subst (λ l. Contains (archives_in o.left.view.first ++ arrivals l) n) (sym o.left.is_log) (subst (λ (t : Table). Contains (archives_in t ++ arrivals o.log) n) (sym o.left.first) h)
@@ -136,9 +136,9 @@ one_more used n m none ne = by (m == n) refl
     by false e = none
 
 pub uses_more : (ns : List ℕ) (used : ℕ → Bool) (m : ℕ) → used m ≡ false → (Contains ns m → ⊥) → with_uses used ns m ≡ false
-uses_more [] used m none no = none
-uses_more (n ∷ ns) used m none no =
-    uses_more ns (with_use used n) m (one_more used n m none (λ e. no (subst (λ k. Contains (n ∷ ns) k) e (here n ns)))) (λ h. no (Contains-append_right (n ∷ []) ns m h))
+uses_more [] used m none absent = none
+uses_more (n ∷ ns) used m none absent =
+    uses_more ns (with_use used n) m (one_more used n m none (λ e. absent (subst (λ k. Contains (n ∷ ns) k) e (here n ns)))) (λ h. absent (Contains-append_right (n ∷ []) ns m h))
 
 come_empty : (ns : List ℕ) (used : ℕ → Bool) (taken : ℕ → Meaning) → ((n : ℕ) → Contains ns n → used n ≡ false) → ((n : ℕ) → Contains ns n → IsEmpty (taken n)) → AreApart ns → ComeEmpty used taken ns
 come_empty [] used taken unused empty apart = tt
@@ -159,21 +159,21 @@ Clean log = All (λ e. IsTrue (is_clean e)) log
 abbrev HasRoom : List Entry → Type 0
 HasRoom log = length log < log_bound
 
-abbrev pub came_of : (c : Closed) → List (One c) → List ℕ
+abbrev pub came_of : (c : ClosedSession) → List (One c) → List ℕ
 came_of c os = came_by (logs c os)
 
-abbrev pub named_of : (c : Closed) → List (One c) → List ℕ
+abbrev pub named_of : (c : ClosedSession) → List (One c) → List ℕ
 named_of c os = flat_map archives_in (reads c os)
 
 -- what is asked of these archives
-pub record Asks (c : Closed) (used : ℕ → Bool) (named came : List ℕ) : Type 0 where
+pub record Asks (c : ClosedSession) (used : ℕ → Bool) (named came : List ℕ) : Type 0 where
   pub back_named : (n : ℕ) → Contains named n → times n c.missing ≡ 0
   pub steady : (n : ℕ) → Contains named n → Rose (c.room.before.means n).faults (c.room.after.means n).faults → ⊥
   pub empty : (n : ℕ) → Contains came n → IsEmpty (c.room.before.means n)
   pub unused : (n : ℕ) → Contains came n → used n ≡ false
   pub apart : AreApart came
 
-one_well : (c : Closed) (used : ℕ → Bool) (o : One c) → Clean o.log → HasRoom o.log → Asks c used (archives_in o.read) (arrivals o.log) → WentWell used o.left.view
+one_well : (c : ClosedSession) (used : ℕ → Bool) (o : One c) → Clean o.log → HasRoom o.log → Asks c used (archives_in o.read) (arrivals o.log) → WentWell used o.left.view
 one_well c used o clean room asks = record {
   clean = subst Clean (sym o.left.is_log) clean;
   room = subst HasRoom (sym o.left.is_log) room;
@@ -183,7 +183,7 @@ one_well c used o clean room asks = record {
       (come_empty (arrivals o.log) used o.left.view.shelves.taken asks.unused (λ n h. empty_then c o n (had_here c o n (Contains-append_right (archives_in o.read) (arrivals o.log) n h)) (asks.empty n h)) asks.apart);
 }
 
-first_asks : (c : Closed) (used : ℕ → Bool) (o : One c) (os : List (One c)) → Asks c used (named_of c (o ∷ os)) (came_of c (o ∷ os)) → Asks c used (archives_in o.read) (arrivals o.log)
+first_asks : (c : ClosedSession) (used : ℕ → Bool) (o : One c) (os : List (One c)) → Asks c used (named_of c (o ∷ os)) (came_of c (o ∷ os)) → Asks c used (archives_in o.read) (arrivals o.log)
 first_asks c used o os asks = record {
   back_named = λ n h. asks.back_named n (Contains-append_left (archives_in o.read) (named_of c os) n h);
   steady = λ n h. asks.steady n (Contains-append_left (archives_in o.read) (named_of c os) n h);
@@ -192,7 +192,7 @@ first_asks c used o os asks = record {
   apart = front_apart (arrivals o.log) (came_of c os) asks.apart;
 }
 
-rest_asks : (c : Closed) (used : ℕ → Bool) (o : One c) (os : List (One c)) → Asks c used (named_of c (o ∷ os)) (came_of c (o ∷ os))
+rest_asks : (c : ClosedSession) (used : ℕ → Bool) (o : One c) (os : List (One c)) → Asks c used (named_of c (o ∷ os)) (came_of c (o ∷ os))
     → Asks c (with_uses used (arrivals o.left.view.log)) (named_of c os) (came_of c os)
 rest_asks c used o os asks = record {
   back_named = λ n h. asks.back_named n (Contains-append_right (archives_in o.read) (named_of c os) n h);
@@ -204,17 +204,17 @@ rest_asks c used o os asks = record {
   apart = back_apart (arrivals o.log) (came_of c os) asks.apart;
 }
 
-pub all_went : (c : Closed) (os : List (One c)) (used : ℕ → Bool) → All Clean (logs c os) → All HasRoom (logs c os) → Asks c used (named_of c os) (came_of c os) → AllWentWell used (pasts_of c os)
+pub all_went : (c : ClosedSession) (os : List (One c)) (used : ℕ → Bool) → All Clean (logs c os) → All HasRoom (logs c os) → Asks c used (named_of c os) (came_of c os) → AllWentWell used (pasts_of c os)
 all_went c [] used clean room asks = tt
 all_went c (o ∷ os) used clean room asks = (
   one_well c used o (All-head Clean o.log (logs c os) clean) (All-head HasRoom o.log (logs c os) room) (first_asks c used o os asks),
   all_went c os (with_uses used (arrivals o.left.view.log)) (All-tail Clean o.log (logs c os) clean) (All-tail HasRoom o.log (logs c os) room) (rest_asks c used o os asks),
 )
 
--- an archive that came to none of them has no new use
-pub since : (c : Closed) (os : List (One c)) (used : ℕ → Bool) (n : ℕ) → used n ≡ false → (Contains (came_of c os) n → ⊥) → used_since (pasts_of c os) used n ≡ false
-since c [] used n none no = none
-since c (o ∷ os) used n none no =
+-- an archive that came to none of them has no use after them
+pub since : (c : ClosedSession) (os : List (One c)) (used : ℕ → Bool) (n : ℕ) → used n ≡ false → (Contains (came_of c os) n → ⊥) → used_since (pasts_of c os) used n ≡ false
+since c [] used n none absent = none
+since c (o ∷ os) used n none absent =
     since c os (with_uses used (arrivals o.left.view.log)) n
-    (subst (λ l. with_uses used (arrivals l) n ≡ false) (sym o.left.is_log) (uses_more (arrivals o.log) used n none (λ h. no (Contains-append_left (arrivals o.log) (came_of c os) n h))))
-    (λ h. no (Contains-append_right (arrivals o.log) (came_of c os) n h))
+    (subst (λ l. with_uses used (arrivals l) n ≡ false) (sym o.left.is_log) (uses_more (arrivals o.log) used n none (λ h. absent (Contains-append_left (arrivals o.log) (came_of c os) n h))))
+    (λ h. absent (Contains-append_right (arrivals o.log) (came_of c os) n h))

@@ -27,8 +27,8 @@ use Rattle.pot_world.proofs.Later.{first_reopened}
 use Rattle.pot_refinement.specs.Refinement.{AllWentWell, AreNew, IsEmpty, IsNew, SimulateNew, Simulates, all_ran, is_clean, used_by_each, used_since}
 use Rattle.pot_refinement.proofs.Ended.{all_used, all_well, first_session}
 use Rattle.pot_refinement.proofs.Executions.{makes, site}
-use Rattle.pot_theorem.specs.Worlds.{AllShow, IsGroupOf, IsInWorld, RunsReach, Shows, had_with}
-use Rattle.pot_theorem.specs.Sessions.{Closed, GoOn, GoesOn, IsChain, IsFirst, IsUndisturbed, came_in, last_session, many_archives, named_in}
+use Rattle.pot_theorem.specs.Worlds.{AreAsLeft, IsGroupOf, IsInWorld, RunsReach, IsAsLeft, had_with}
+use Rattle.pot_theorem.specs.Sessions.{ClosedSession, AllSucceed, Succeeds, AreInARow, IsFirst, IsUndisturbed, new_archives, last_session, many_archives, first_archives}
 use Rattle.pot_theorem.proofs.Between.{AllBegun, go_all}
 use Rattle.pot_theorem.proofs.Chaining.{HasColumns, all_begun, all_of}
 use Rattle.pot_theorem.proofs.Groups.{Asks, One, all_went, came_of, empty_then, had_here, logs, named_of, ones_of, pasts_of, reads, shown, since, writtens}
@@ -53,16 +53,16 @@ Clean log = All (λ e. IsTrue (is_clean e)) log
 abbrev HasRoom : List Entry → Type 0
 HasRoom log = length log < log_bound
 
-module _ (earlier : List ℕ) (c : Closed) (u : IsUndisturbed earlier c) where
-  named_here : (n : ℕ) → Contains (named_of c (all_of c)) n → Contains (named_in c) n
+module _ (earlier : List ℕ) (c : ClosedSession) (u : IsUndisturbed earlier c) where
+  named_here : (n : ℕ) → Contains (named_of c (all_of c)) n → Contains (first_archives c) n
   named_here n h = subst (λ ts. Contains (flat_map archives_in ts) n) (ones_of c).are_read h
 
-  came_here : (n : ℕ) → Contains (came_of c (all_of c)) n → Contains (came_in c) n
+  came_here : (n : ℕ) → Contains (came_of c (all_of c)) n → Contains (new_archives c) n
   came_here n h = subst (λ ls. Contains (came_by ls) n) (ones_of c).are_logs h
 
   pub all_back : (n : ℕ) → Contains (named_of c (all_of c)) n ⊎ Contains (came_of c (all_of c)) n → times n c.missing ≡ 0
-  all_back n (inl h) = u.back n (Contains-append_left (named_in c) (came_in c) n (named_here n h))
-  all_back n (inr h) = u.back n (Contains-append_right (named_in c) (came_in c) n (came_here n h))
+  all_back n (inl h) = u.back n (Contains-append_left (first_archives c) (new_archives c) n (named_here n h))
+  all_back n (inr h) = u.back n (Contains-append_right (first_archives c) (new_archives c) n (came_here n h))
 
   pub asks : (used : ℕ → Bool) → IsUnused used c.first.rack earlier → Asks c used (named_of c (all_of c)) (came_of c (all_of c))
   asks used unused = record {
@@ -78,19 +78,19 @@ module _ (earlier : List ℕ) (c : Closed) (u : IsUndisturbed earlier c) where
       all_went c (all_of c) used (subst (λ ls. All Clean ls) (sym (ones_of c).are_logs) u.clean) (subst (λ ls. All HasRoom ls) (sym (ones_of c).are_logs) u.has_room) (asks used unused)
 
   -- and then archives that came nowhere still have no use
-  pub still_unused : (used : ℕ → Bool) → IsUnused used c.first.rack earlier → IsUnused (used_since (pasts_of c (all_of c)) used) c.first.rack (earlier ++ came_in c)
+  pub still_unused : (used : ℕ → Bool) → IsUnused used c.first.rack earlier → IsUnused (used_since (pasts_of c (all_of c)) used) c.first.rack (earlier ++ new_archives c)
   still_unused used unused n le none =
-      since c (all_of c) used n (unused n le (λ h. none (Contains-append_left earlier (came_in c) n h))) (λ h. none (Contains-append_right earlier (came_in c) n (came_here n h)))
+      since c (all_of c) used n (unused n le (λ h. none (Contains-append_left earlier (new_archives c) n h))) (λ h. none (Contains-append_right earlier (new_archives c) n (came_here n h)))
 
 -- each table of a session has its columns
-pub columns_of : (c : Closed) (g : ℕ) (t : Table) → slice_get (reads c (all_of c)) g ≡ Some t → HasColumns t
+pub columns_of : (c : ClosedSession) (g : ℕ) (t : Table) → slice_get (reads c (all_of c)) g ≡ Some t → HasColumns t
 columns_of c g t e =
     let rules : FitsTable c.first.rack t = all_at_place (FitsTable c.first.rack) c.first.tables g t c.fits.tables.fits (subst (λ ts. slice_get ts g ≡ Some t) (ones_of c).are_read e) in
     rules.rules.size.columns
 
 -- THE FIRST SESSION
 
-all_new : (c : Closed) (rack : Rack) (n more : ℕ) (os : List (One c)) → reads c os ≡ map (empty_table rack) (range_with_len n more) → ((m : ℕ) → Contains (named_of c os) m → IsEmpty (c.room.before.means m))
+all_new : (c : ClosedSession) (rack : Rack) (n more : ℕ) (os : List (One c)) → reads c os ≡ map (empty_table rack) (range_with_len n more) → ((m : ℕ) → Contains (named_of c os) m → IsEmpty (c.room.before.means m))
     → AreNew rack n more (pasts_of c os)
 all_new c rack n zero [] are empty = tt
 all_new c rack n zero (o ∷ os) are empty = absurd (cc are)
@@ -109,7 +109,7 @@ all_new c rack n (suc more) (o ∷ os) are empty = (
   (λ m h. empty m (Contains-append_right (archives_in o.read) (named_of c os) m h)),
 )
 
-new_first : (c : Closed) → IsFirst c → AreNew c.first.rack 0 c.first.rack.groups (pasts_of c (all_of c))
+new_first : (c : ClosedSession) → IsFirst c → AreNew c.first.rack 0 c.first.rack.groups (pasts_of c (all_of c))
 new_first c first =
     all_new c c.first.rack 0 c.first.rack.groups (all_of c) ((ones_of c).are_read ∙ first.tables)
     (λ m h. first.empty m (subst (λ ts. Contains (flat_map archives_in ts) m) (ones_of c).are_read h))
@@ -117,20 +117,20 @@ new_first c first =
 -- WHAT A SESSION COMES TO
 
 -- groups of a world that simulate those that a session left
-pub record IsReached (rack : Rack) (earlier : List ℕ) (c : Closed) (x : Site) : Type 0 where
+pub record IsReached (rack : Rack) (earlier : List ℕ) (c : ClosedSession) (x : Site) : Type 0 where
   pub simulates : SimulateNew x.used x.groups (all_ran (pasts_of c (all_of c)))
   pub unused : IsUnused x.used rack earlier
   pub same_rack : c.first.rack ≡ rack
   pub back : (n : ℕ) → Contains (named_of c (all_of c)) n ⊎ Contains (came_of c (all_of c)) n → times n c.missing ≡ 0
 
 -- moves to such groups
-pub record GoesTo (rack : Rack) (earlier : List ℕ) (c : Closed) (from : Site) : Type 0 where
+pub record GoesTo (rack : Rack) (earlier : List ℕ) (c : ClosedSession) (from : Site) : Type 0 where
   pub moves : List Move
   pub to : Site
   pub go : Reaches from moves to
   pub reached : IsReached rack earlier c to
 
-pub first_reach : (c : Closed) → IsFirst c → IsUndisturbed [] c → GoesTo c.first.rack (came_in c) c (first_site c.first.rack)
+pub first_reach : (c : ClosedSession) → IsFirst c → IsUndisturbed [] c → GoesTo c.first.rack (new_archives c) c (first_site c.first.rack)
 first_reach c first u =
     let rack = c.first.rack in
     let r = first_session rack (pasts_of c (all_of c)) c.fits.rack (new_first c first) (went [] c u (first_used rack) (first_unused rack)) in
@@ -140,14 +140,14 @@ first_reach c first u =
       go = r.2;
       reached = record {
         simulates = r.4;
-        unused = subst (λ v. IsUnused v rack (came_in c)) (sym r.3) (still_unused [] c u (first_used rack) (first_unused rack));
+        unused = subst (λ v. IsUnused v rack (new_archives c)) (sym r.3) (still_unused [] c u (first_used rack) (first_unused rack));
         same_rack = refl;
         back = all_back [] c u;
       };
     }
 
-pub next_reach : (rack : Rack) (earlier : List ℕ) (c d : Closed) (x : Site) → IsReached rack earlier c x → GoesOn c d → IsUndisturbed earlier d
-    → GoesTo rack (earlier ++ came_in d) d (reopened_site x)
+pub next_reach : (rack : Rack) (earlier : List ℕ) (c d : ClosedSession) (x : Site) → IsReached rack earlier c x → Succeeds c d → IsUndisturbed earlier d
+    → GoesTo rack (earlier ++ new_archives d) d (reopened_site x)
 next_reach rack earlier c d x reached goes u =
     let rack_is : d.first.rack ≡ rack = goes.begins.rack ∙ c.leaves.rack ∙ reached.same_rack in
     let unused : IsUnused x.used d.first.rack earlier = subst (λ r. IsUnused x.used r earlier) (sym rack_is) reached.unused in
@@ -162,7 +162,7 @@ next_reach rack earlier c d x reached goes u =
       go = r.2;
       reached = record {
         simulates = r.3;
-        unused = subst (λ v. IsUnused v rack (earlier ++ came_in d)) (sym used_is) (subst (λ k. IsUnused (used_since (pasts_of d (all_of d)) x.used) k (earlier ++ came_in d)) rack_is (still_unused earlier d u x.used unused));
+        unused = subst (λ v. IsUnused v rack (earlier ++ new_archives d)) (sym used_is) (subst (λ k. IsUnused (used_since (pasts_of d (all_of d)) x.used) k (earlier ++ new_archives d)) rack_is (still_unused earlier d u x.used unused));
         same_rack = rack_is;
         back = all_back earlier d u;
       };
@@ -171,7 +171,7 @@ next_reach rack earlier c d x reached goes u =
 -- SESSION AFTER SESSION
 
 -- sessions of a world that come to the groups of the last session
-pub record ReachesLast (rack : Rack) (c : Closed) (more : List Closed) (x : Site) : Type 0 where
+pub record ReachesLast (rack : Rack) (c : ClosedSession) (more : List ClosedSession) (x : Site) : Type 0 where
   pub sessions : List (List Move)
   pub many : length sessions ≡ length more
   pub to : Site
@@ -179,11 +179,11 @@ pub record ReachesLast (rack : Rack) (c : Closed) (more : List Closed) (x : Site
   pub earlier : List ℕ
   pub reached : IsReached rack earlier (last_session c more) to
 
-on : (rack : Rack) (earlier : List ℕ) (c : Closed) (more : List Closed) (x : Site) → IsReached rack (earlier ++ came_in c) c x → GoOn earlier c more → ReachesLast rack c more x
-on rack earlier c [] x reached go = record { sessions = []; many = refl; to = x; run = refl; earlier = earlier ++ came_in c; reached = reached }
+on : (rack : Rack) (earlier : List ℕ) (c : ClosedSession) (more : List ClosedSession) (x : Site) → IsReached rack (earlier ++ new_archives c) c x → AllSucceed earlier c more → ReachesLast rack c more x
+on rack earlier c [] x reached go = record { sessions = []; many = refl; to = x; run = refl; earlier = earlier ++ new_archives c; reached = reached }
 on rack earlier c (d ∷ more) x reached go =
-    let one = next_reach rack (earlier ++ came_in c) c d x reached go.0 go.1 in
-    let rest = on rack (earlier ++ came_in c) d more one.to one.reached go.2 in
+    let one = next_reach rack (earlier ++ new_archives c) c d x reached go.0 go.1 in
+    let rest = on rack (earlier ++ new_archives c) d more one.to one.reached go.2 in
     record {
       sessions = one.moves ∷ rest.sessions;
       many = ap suc rest.many;
@@ -195,15 +195,8 @@ on rack earlier c (d ∷ more) x reached go =
 
 -- WHAT THEY COME TO
 
--- a group of the world, and the one that it simulates
-pub record Matched (c : Closed) (g : ℕ) (used : ℕ → Bool) (h : WorldGroup) : Type 0 where
-  pub one : One c
-  pub simulates : Simulates used h (state_of one.left.view)
-  pub was : slice_get (reads c (all_of c)) g ≡ Some one.read
-  pub logged : slice_get (logs c (all_of c)) g ≡ Some one.log
-  pub is : slice_get (writtens c (all_of c)) g ≡ Some one.written
-
-matched : (c : Closed) (os : List (One c)) (used : ℕ → Bool) (gs : List WorldGroup) (g : ℕ) (h : WorldGroup) → SimulateNew used gs (all_ran (pasts_of c os)) → slice_get gs g ≡ Some h
+-- the group that one of the world simulates
+matched : (c : ClosedSession) (os : List (One c)) (used : ℕ → Bool) (gs : List WorldGroup) (g : ℕ) (h : WorldGroup) → SimulateNew used gs (all_ran (pasts_of c os)) → slice_get gs g ≡ Some h
     → (o : One c) × Simulates used h (state_of o.left.view) × (slice_get (reads c os) g ≡ Some o.read) × (slice_get (logs c os) g ≡ Some o.log) × (slice_get (writtens c os) g ≡ Some o.written)
 matched c [] used [] g h f e = absurd (cc)
 matched c (o ∷ os) used [] g h f e = absurd f
@@ -211,13 +204,13 @@ matched c [] used (x ∷ gs) g h f e = absurd f
 matched c (o ∷ os) used (x ∷ gs) zero h f e = (o, subst (λ y. Simulates used y (state_of o.left.view)) (same_Some x h e) f.0, refl, refl, refl)
 matched c (o ∷ os) used (x ∷ gs) (suc g) h f e = matched c os used gs g h f.1 e
 
-as_many : (c : Closed) (os : List (One c)) (used : ℕ → Bool) (gs : List WorldGroup) → SimulateNew used gs (all_ran (pasts_of c os)) → length gs ≡ length (reads c os)
+as_many : (c : ClosedSession) (os : List (One c)) (used : ℕ → Bool) (gs : List WorldGroup) → SimulateNew used gs (all_ran (pasts_of c os)) → length gs ≡ length (reads c os)
 as_many c [] used [] f = refl
 as_many c (o ∷ os) used [] f = absurd f
 as_many c [] used (x ∷ gs) f = absurd f
 as_many c (o ∷ os) used (x ∷ gs) f = ap suc (as_many c os used gs f.1)
 
-each_good : (c : Closed) (os : List (One c)) (used : ℕ → Bool) (gs : List WorldGroup) → SimulateNew used gs (all_ran (pasts_of c os)) → EachGroup (IsGood used) gs
+each_good : (c : ClosedSession) (os : List (One c)) (used : ℕ → Bool) (gs : List WorldGroup) → SimulateNew used gs (all_ran (pasts_of c os)) → EachGroup (IsGood used) gs
 unfolding EachGroup
 each_good c [] used [] f = tt
 each_good c (o ∷ os) used [] f = absurd f
@@ -225,7 +218,7 @@ each_good c [] used (x ∷ gs) f = absurd f
 each_good c (o ∷ os) used (x ∷ gs) f = (f.0.good, each_good c os used gs f.1)
 
 -- so it is what the session left
-module _ (rack : Rack) (earlier : List ℕ) (c : Closed) (x : Site) (r : IsReached rack earlier c x) (g : ℕ) (read written : Table) (log : List Entry) (h : WorldGroup)
+module _ (rack : Rack) (earlier : List ℕ) (c : ClosedSession) (x : Site) (r : IsReached rack earlier c x) (g : ℕ) (read written : Table) (log : List Entry) (h : WorldGroup)
     (of : IsGroupOf c g read written log) (there : slice_get x.groups g ≡ Some h) where
   pub found : (o : One c) × Simulates x.used h (state_of o.left.view) × (o.read ≡ read) × (o.log ≡ log) × (o.written ≡ written)
   found =
@@ -248,8 +241,8 @@ module _ (rack : Rack) (earlier : List ℕ) (c : Closed) (x : Site) (r : IsReach
   here n has =
       had_here c found.0 n (subst (λ l. Contains (archives_in found.0.read ++ arrivals l) n) (sym found.3) (subst (λ (t : Table). Contains (archives_in t ++ arrivals log) n) (sym found.2) has))
 
-  pub shows : Shows c read written log h
-  shows =
+  pub as_left : IsAsLeft c read written log h
+  as_left =
       let o = found.0 in
       let same = found.1.same in
       record {
@@ -260,20 +253,20 @@ module _ (rack : Rack) (earlier : List ℕ) (c : Closed) (x : Site) (r : IsReach
         heard = λ n has. same.heard n ∙ (shown c o n (here n has) (is_back n has)).sums;
       }
 
-pub all_show : (rack : Rack) (earlier : List ℕ) (c : Closed) (x : Site) → IsReached rack earlier c x → AllShow c x
-all_show rack earlier c x r = record {
+pub all_left : (rack : Rack) (earlier : List ℕ) (c : ClosedSession) (x : Site) → IsReached rack earlier c x → AreAsLeft c x
+all_left rack earlier c x r = record {
   count = as_many c (all_of c) x.used x.groups r.simulates ∙ ap length (ones_of c).are_read ∙ c.fits.tables.count;
-  each = λ g read written log h of there. shows rack earlier c x r g read written log h of there;
+  each = λ g read written log h of there. as_left rack earlier c x r g read written log h of there;
 }
 
 -- THE WHOLE
 
-pub record Reached (c : Closed) (more : List Closed) : Type 0 where
+pub record Reached (c : ClosedSession) (more : List ClosedSession) : Type 0 where
   pub world : IsInWorld c more
   pub earlier : List ℕ
   pub reached : IsReached c.first.rack earlier (last_session c more) world.site
 
-pub reaches : (c : Closed) (more : List Closed) → IsChain c more → Reached c more
+pub reaches : (c : ClosedSession) (more : List ClosedSession) → AreInARow c more → Reached c more
 reaches c more chain =
     let rack = c.first.rack in
     let one = first_reach c chain.is_first chain.undisturbed in
@@ -285,7 +278,7 @@ reaches c more chain =
         site = rest.to;
         run = (one.to, subst (λ (s : Site). Reaches s one.moves one.to) (sym (first_reopened rack)) one.go, rest.run);
         good = each_good (last_session c more) (all_of (last_session c more)) rest.to.used rest.to.groups rest.reached.simulates;
-        shows = all_show rack rest.earlier (last_session c more) rest.to rest.reached;
+        as_left = all_left rack rest.earlier (last_session c more) rest.to rest.reached;
       };
       earlier = rest.earlier;
       reached = rest.reached;

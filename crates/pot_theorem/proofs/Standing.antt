@@ -37,22 +37,22 @@ use Rattle.pot_world.proofs.Ending.{relay_gives}
 use Rattle.pot_world.proofs.Flights.{flies, found_at}
 use Rattle.pot_world.proofs.Holding.{kept_holds}
 use Rattle.pot_theorem.specs.Hard.{AreCodewords, HomesServe, NoneIsOdd, PlacesStand, StripesStand}
-use Rattle.pot_theorem.specs.Sessions.{Closed, GoOn, GoesOn, came_in, last_session}
-use Rattle.pot_theorem.specs.Worlds.{IsGroupOf, Shows, had_with}
+use Rattle.pot_theorem.specs.Sessions.{ClosedSession, AllSucceed, Succeeds, new_archives, last_session}
+use Rattle.pot_theorem.specs.Worlds.{IsGroupOf, IsAsLeft, had_with}
 use Rattle.pot_theorem.proofs.Chaining.{HasColumns, named_had, table_had}
 use Rattle.pot_theorem.proofs.Groups.{had_there}
-use Rattle.pot_theorem.proofs.Reaching.{IsReached, all_show, found, shows}
+use Rattle.pot_theorem.proofs.Reaching.{IsReached, all_left, found, as_left}
 
 -- A GROUP
 
 -- a table that a session read keeps the rules
-pub is_read : (c : Closed) (g : ℕ) (t : Table) → slice_get c.first.tables g ≡ Some t → FitsTable c.first.rack t
+pub is_read : (c : ClosedSession) (g : ℕ) (t : Table) → slice_get c.first.tables g ≡ Some t → FitsTable c.first.rack t
 is_read c g t e = all_at_place (FitsTable c.first.rack) c.first.tables g t c.fits.tables.fits e
 
-module _ (rack : Rack) (earlier : List ℕ) (c : Closed) (x : Site) (r : IsReached rack earlier c x) (g : ℕ) (read written : Table) (log : List Entry) (h : WorldGroup)
+module _ (rack : Rack) (earlier : List ℕ) (c : ClosedSession) (x : Site) (r : IsReached rack earlier c x) (g : ℕ) (read written : Table) (log : List Entry) (h : WorldGroup)
     (of : IsGroupOf c g read written log) (there : slice_get x.groups g ≡ Some h) where
-  shown : Shows c read written log h
-  shown = shows rack earlier c x r g read written log h of there
+  shown : IsAsLeft c read written log h
+  shown = as_left rack earlier c x r g read written log h of there
 
   kept : IsKept h
   kept = (found rack earlier c x r g read written log h of there).1.good.0
@@ -106,7 +106,7 @@ module _ (rack : Rack) (earlier : List ℕ) (c : Closed) (x : Site) (r : IsReach
     λ s f e none. relay_gives h f kept (flies h f kept (found_at h.state.flights s f e).0) none,
   )
 
-pub stripes_stand : (rack : Rack) (earlier : List ℕ) (c : Closed) (x : Site) → IsReached rack earlier c x → StripesStand c x
+pub stripes_stand : (rack : Rack) (earlier : List ℕ) (c : ClosedSession) (x : Site) → IsReached rack earlier c x → StripesStand c x
 stripes_stand rack earlier c x r g read written log h of there = stripes rack earlier c x r g read written log h of there
 
 -- PLACES
@@ -149,12 +149,12 @@ fills_within t (x ∷ log) u s k d e is (legal, rest) (suc i, lt, at) fills =
     ((let a = more.0 in let b = one.2 in omega (arith, a, b)), (let a = more.1 in let b = one.0 in omega (arith, a, b)))
 
 -- a place of a group that a session left has this digest
-abbrev pub Has : Closed → ℕ → ℕ → ℕ → Digest → Type 0
+abbrev pub Has : ClosedSession → ℕ → ℕ → ℕ → Digest → Type 0
 Has c g s k d =
     (written : Table) → slice_get c.last.tables g ≡ Some written → (s < written.stripes) × (k < written.data_columns) × (digest_in (slot_at written s k) ≡ Some d)
 
 -- what a session read and logged of a group whose table it wrote
-module _ (c : Closed) (g : ℕ) (written : Table) (is : slice_get c.last.tables g ≡ Some written) where
+module _ (c : ClosedSession) (g : ℕ) (written : Table) (is : slice_get c.last.tables g ≡ Some written) where
   within : g < length c.last.tables
   within = slice_get_within c.last.tables g written is
 
@@ -165,7 +165,7 @@ module _ (c : Closed) (g : ℕ) (written : Table) (is : slice_get c.last.tables 
   log_there = element_at c.last.group_logs g (let a = within in let b = c.leaves.groups.count in let d = c.leaves.groups.count_logs in omega (arith, a, b, d))
 
 -- a log leads from the table read to one that is written
-leads_to : (c : Closed) (g : ℕ) (read written : Table) (log : List Entry) → IsGroupOf c g read written log → (u : Table) × Replays read log u × (written ≡ still u)
+leads_to : (c : ClosedSession) (g : ℕ) (read written : Table) (log : List Entry) → IsGroupOf c g read written log → (u : Table) × Replays read log u × (written ≡ still u)
 leads_to c g read written log of =
     let left = c.leaves.groups.each g read written log of.was of.is of.logged in (
       left.view.table,
@@ -174,7 +174,7 @@ leads_to c g read written log of =
     )
 
 -- where its own log put a block
-has_own : (c : Closed) (g : ℕ) (read written : Table) (log : List Entry) (e : Entry) (s k : ℕ) (d : Digest) → IsGroupOf c g read written log → Contains log e → Fills s k d e → Has c g s k d
+has_own : (c : ClosedSession) (g : ℕ) (read written : Table) (log : List Entry) (e : Entry) (s k : ℕ) (d : Digest) → IsGroupOf c g read written log → Contains log e → Fills s k d e → Has c g s k d
 has_own c g read written log e s k d of has fills w is =
     let to = leads_to c g read written log of in
     let rules = (is_read c g read of.was).rules in
@@ -185,7 +185,7 @@ has_own c g read written log e s k d of has fills w is =
     ((let a = place.0 in let b = sizes.1 in omega (arith, a, b)), (let a = place.1 in let b = sizes.0 in omega (arith, a, b)), put_digest read log to.0 s k d e rules to.1 has fills)
 
 -- and in the next session
-has_next : (c d : Closed) (g s k : ℕ) (x : Digest) → GoesOn c d → Has c g s k x → Has d g s k x
+has_next : (c d : ClosedSession) (g s k : ℕ) (x : Digest) → Succeeds c d → Has c g s k x → Has d g s k x
 has_next c d g s k x goes has w is =
     let read = read_there d g w is in
     let log = log_there d g w is in
@@ -197,25 +197,25 @@ has_next c d g s k x goes has w is =
     ((let a = before.0 in let b = sizes.1 in omega (arith, a, b)), (let a = before.1 in let b = sizes.0 in omega (arith, a, b)), digest_along read.0 log.0 to.0 s k x rules to.1 before.1 before.2)
 
 -- to the last one
-has_last : (earlier : List ℕ) (c : Closed) (more : List Closed) (g s k : ℕ) (x : Digest) → GoOn earlier c more → Has c g s k x → Has (last_session c more) g s k x
+has_last : (earlier : List ℕ) (c : ClosedSession) (more : List ClosedSession) (g s k : ℕ) (x : Digest) → AllSucceed earlier c more → Has c g s k x → Has (last_session c more) g s k x
 has_last earlier c [] g s k x go has = has
-has_last earlier c (d ∷ more) g s k x go has = has_last (earlier ++ came_in c) d more g s k x go.2 (has_next c d g s k x go.0 has)
+has_last earlier c (d ∷ more) g s k x go has = has_last (earlier ++ new_archives c) d more g s k x go.2 (has_next c d g s k x go.0 has)
 
 -- from each
-has_from : (earlier : List ℕ) (c : Closed) (more : List Closed) (d : Closed) (g s k : ℕ) (x : Digest) → GoOn earlier c more → Contains (c ∷ more) d → Has d g s k x → Has (last_session c more) g s k x
+has_from : (earlier : List ℕ) (c : ClosedSession) (more : List ClosedSession) (d : ClosedSession) (g s k : ℕ) (x : Digest) → AllSucceed earlier c more → Contains (c ∷ more) d → Has d g s k x → Has (last_session c more) g s k x
 has_from earlier c more d g s k x go (zero, lt, e) has = has_last earlier c more g s k x go (subst (λ y. Has y g s k x) (sym e) has)
 has_from earlier c [] d g s k x go (suc i, lt, e) has = absurd (omega (arith, lt))
-has_from earlier c (y ∷ more) d g s k x go (suc i, lt, e) has = has_from (earlier ++ came_in c) y more d g s k x go.2 (i, omega (arith, lt), e) has
+has_from earlier c (y ∷ more) d g s k x go (suc i, lt, e) has = has_from (earlier ++ new_archives c) y more d g s k x go.2 (i, omega (arith, lt), e) has
 
 -- there the codeword's block has it
-pub places_stand : (rack : Rack) (earlier : List ℕ) (c : Closed) (more : List Closed) (x : Site) → IsReached rack earlier (last_session c more) x → GoOn [] c more → (d : Closed) → Contains (c ∷ more) d
+pub places_stand : (rack : Rack) (earlier : List ℕ) (c : ClosedSession) (more : List ClosedSession) (x : Site) → IsReached rack earlier (last_session c more) x → AllSucceed [] c more → (d : ClosedSession) → Contains (c ∷ more) d
     → PlacesStand d x
 places_stand rack earlier c more x r go d in_chain g read written log h e s k dg of there has fills =
     let l = last_session c more in
     let own = has_own d g read written log e s k dg of has fills in
     let last = has_from [] c more d g s k dg go in_chain own in
     let many : g < length l.last.tables =
-    (let lt = slice_get_within x.groups g h there in let a = (all_show rack earlier l x r).count in let b = l.fits.tables.count in let m = l.leaves.groups.count in omega (arith, lt, a, b, m)) in
+    (let lt = slice_get_within x.groups g h there in let a = (all_left rack earlier l x r).count in let b = l.fits.tables.count in let m = l.leaves.groups.count in omega (arith, lt, a, b, m)) in
     let w = element_at l.last.tables g many in
     let rd = read_there l g w.0 w.1 in
     let lg = log_there l g w.0 w.1 in

@@ -16,12 +16,13 @@ use Rattle.pot_world.specs.Coalition.{Served}
 use Rattle.pot_world.specs.Group.{WorldGroup}
 use Rattle.pot_world.specs.Later.{Both, IsLow, Known, OtherSessions, Sessions, SessionsFit, reopened_site}
 use Rattle.pot_world.specs.Reached.{EachGroup, Loses, Makes, Move, Site, first_site, moved}
-use Rattle.pot_world.proofs.Auditing.{first_both}
+use Rattle.pot_steps.proofs.BlockLemmas.{IsBlock-zero_block}
+use Rattle.pot_world.proofs.Auditing.{first_both, sights_fit}
 use Rattle.pot_world.proofs.Later.{reopened_both, runs_seen_on}
-use Rattle.pot_theorem.specs.Hard.{HomesServe, SeesInRoom, StaysVeiled}
-use Rattle.pot_theorem.specs.Sessions.{Closed, last_session}
-use Rattle.pot_theorem.specs.Worlds.{AllShow, IsGroupOf, IsInWorld, Shows}
-use Rattle.pot_theorem.proofs.Reaching.{IsReached, shows}
+use Rattle.pot_theorem.specs.Hard.{HomesServe, SeesInRoom, IsVeiled}
+use Rattle.pot_theorem.specs.Sessions.{ClosedSession, last_session}
+use Rattle.pot_theorem.specs.Worlds.{AreAsLeft, IsGroupOf, IsInWorld, IsAsLeft}
+use Rattle.pot_theorem.proofs.Reaching.{IsReached, as_left}
 use Rattle.pot_theorem.proofs.Standing.{of_named}
 
 -- SESSIONS WITH OTHER BYTES
@@ -45,7 +46,7 @@ same_at exchanges sights (x ∷ gs) (y ∷ hs) zero a b same ea eb =
     subst (λ u. SeesSame exchanges (sights 0) u b) (same_Some x a ea) (subst (λ v. SeesSame exchanges (sights 0) x v) (same_Some y b eb) same.0)
 same_at exchanges sights (x ∷ gs) (y ∷ hs) (suc g) a b same ea eb = same_at exchanges (λ n. sights (suc n)) gs hs g a b same.1 ea eb
 
-in_room : (exchanges : Bool) (sight : Sight) (c : Closed) (read written : Table) (log : List Entry) (a b : WorldGroup) → Shows c read written log a → SeesSame exchanges sight a b
+in_room : (exchanges : Bool) (sight : Sight) (c : ClosedSession) (read written : Table) (log : List Entry) (a b : WorldGroup) → IsAsLeft c read written log a → SeesSame exchanges sight a b
     → SeesInRoom exchanges sight c read log a b
 in_room exchanges Whole c read written log a b s same = λ n has. (
   λ slot. ap (λ (y : WorldGroup). y.state.held n slot) same ∙ s.held n slot has,
@@ -57,7 +58,7 @@ in_room exchanges (One k) c read written log a b s same = λ n has served. (
 )
 in_room exchanges Blind c read written log a b s same = tt
 
-pub stays_veiled : (c : Closed) (more : List Closed) (w : IsInWorld c more) → StaysVeiled c more w
+pub stays_veiled : (c : ClosedSession) (more : List ClosedSession) (w : IsInWorld c more) → IsVeiled c more w
 stays_veiled c more w exchanges coalition bytes blocks fits =
     let rack = c.first.rack in
     let sights = sight_of rack coalition in
@@ -66,7 +67,7 @@ stays_veiled c more w exchanges coalition bytes blocks fits =
       r.0,
       r.1,
       λ g read written log a b of ea eb.
-          in_room exchanges (sights g) (last_session c more) read written log a b (w.shows.each g read written log a of ea) (same_at exchanges sights w.site.groups r.0.groups g a b r.2.same ea eb),
+          in_room exchanges (sights g) (last_session c more) read written log a b (w.as_left.each g read written log a of ea) (same_at exchanges sights w.site.groups r.0.groups g a b r.2.same ea eb),
     )
 
 -- WHAT SERVES
@@ -98,11 +99,11 @@ known rack sessions z fits run =
     (sessions_fit sessions (λ n m. zero_block) (first_site rack) z run) in
     r.2.known
 
-pub homes_serve : (c : Closed) (more : List Closed) (w : IsInWorld c more) (earlier : List ℕ) → IsReached c.first.rack earlier (last_session c more) w.site → HomesServe (last_session c more) w.site
+pub homes_serve : (c : ClosedSession) (more : List ClosedSession) (w : IsInWorld c more) (earlier : List ℕ) → IsReached c.first.rack earlier (last_session c more) w.site → HomesServe (last_session c more) w.site
 homes_serve c more w earlier r g read written log h k n of there lt named =
     let rack = c.first.rack in
     let l = last_session c more in
-    let is = (shows rack earlier l w.site r g read written log h of there).is in
+    let is = (as_left rack earlier l w.site r g read written log h of there).is in
     let lt' : k < width h.state.table = subst (λ (t : Table). k < width t) is lt in
     let named' : IsTrue (names (column_at h.state.table k) n) = subst (λ (t : Table). IsTrue (names (column_at t k) n)) is named in
     let x : Known rack w.site.used h = known_at (Known rack w.site.used) w.site.groups g h (known rack w.sessions w.site c.fits.rack w.run) there in

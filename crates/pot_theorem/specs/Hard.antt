@@ -21,7 +21,7 @@ use Rattle.pot_world.specs.Coalition.{Served}
 use Rattle.pot_world.specs.Group.{WorldGroup}
 use Rattle.pot_world.specs.Later.{OtherSessions, SessionsFit}
 use Rattle.pot_world.specs.Reached.{Site, first_site}
-use Rattle.pot_theorem.specs.Sessions.{Closed, IsChain, last_session}
+use Rattle.pot_theorem.specs.Sessions.{ClosedSession, AreInARow, last_session}
 use Rattle.pot_theorem.specs.Worlds.{IsGroupOf, IsInWorld, had_with}
 
 -- STRIPES
@@ -44,7 +44,7 @@ NoneIsOdd h =
     → partial_of f ≡ h.written f.relay.stripe f.relay.target
 
 -- so it is of each group that a session left
-abbrev pub StripesStand : Closed → Site → Type 0
+abbrev pub StripesStand : ClosedSession → Site → Type 0
 StripesStand c z =
     (g : ℕ) (read written : Table) (log : List Entry) (h : WorldGroup)
     → IsGroupOf c g read written log → slice_get z.groups g ≡ Some h
@@ -54,7 +54,7 @@ StripesStand c z =
 
 -- A block that a log says was put at a place of a group is, by its digest, the one of that place in
 -- the codeword.
-abbrev pub PlacesStand : Closed → Site → Type 0
+abbrev pub PlacesStand : ClosedSession → Site → Type 0
 PlacesStand c z =
     (g : ℕ) (read written : Table) (log : List Entry) (h : WorldGroup) (e : Entry) (s k : ℕ)
     (d : Digest) → IsGroupOf c g read written log → slice_get z.groups g ≡ Some h → Contains log e
@@ -66,7 +66,7 @@ PlacesStand c z =
 -- means. It sees what each archive of the group holds that has served its column in the session,
 -- and, where the blinds are exchanged, what it has heard; or, of a group of which it sees all, what
 -- each archive holds and has heard.
-abbrev pub SeesInRoom : Bool → Sight → Closed → Table → List Entry → (g h : WorldGroup) → Type 0
+abbrev pub SeesInRoom : Bool → Sight → ClosedSession → Table → List Entry → (g h : WorldGroup) → Type 0
 SeesInRoom exchanges Whole c read log g h =
     (n : ℕ) → Contains (had_with read log) n
     → ((slot : ℕ) → h.state.held n slot ≡ (c.room.after.means n).held slot)
@@ -81,8 +81,8 @@ SeesInRoom exchanges Blind c read log g h = Unit {0}
 -- where they come to columns that it sees, there are sessions of the same moves with those bytes
 -- that lead to groups in which all that the coalition sees is what the room means. `exchanges` says
 -- whether the blinds are exchanged too.
-abbrev pub StaysVeiled : (c : Closed) (more : List Closed) → IsInWorld c more → Type 0
-StaysVeiled c more w =
+abbrev pub IsVeiled : (c : ClosedSession) (more : List ClosedSession) → IsInWorld c more → Type 0
+IsVeiled c more w =
     (exchanges : Bool) (coalition : ℕ → ℕ → Bool) (bytes : ℕ → ℕ → List ℕ)
     → ((n m : ℕ) → IsBlock (bytes n m))
     → SessionsFit (sight_of c.first.rack coalition) bytes (first_site c.first.rack) w.sessions w.site
@@ -96,7 +96,7 @@ StaysVeiled c more w =
     → SeesInRoom exchanges (sight_of c.first.rack coalition g) (last_session c more) read log a b)
 
 -- the home and the target of a column have served it
-abbrev pub HomesServe : Closed → Site → Type 0
+abbrev pub HomesServe : ClosedSession → Site → Type 0
 HomesServe c z =
     (g : ℕ) (read written : Table) (log : List Entry) (h : WorldGroup) (k n : ℕ)
     → IsGroupOf c g read written log → slice_get z.groups g ≡ Some h → k < width written
@@ -105,12 +105,12 @@ HomesServe c z =
 -- THE WHOLE
 
 -- What runs of the program leave, from the first one on, as a world has it.
-pub record IsHard (c : Closed) (more : List Closed) : Type 0 where
+pub record HoldsInWorld (c : ClosedSession) (more : List ClosedSession) : Type 0 where
   pub world : IsInWorld c more
   pub stripes : StripesStand (last_session c more) world.site
-  pub places : (d : Closed) → Contains (c ∷ more) d → PlacesStand d world.site
-  pub veil : StaysVeiled c more world
+  pub places : (d : ClosedSession) → Contains (c ∷ more) d → PlacesStand d world.site
+  pub veil : IsVeiled c more world
   pub serve : HomesServe (last_session c more) world.site
 
 abbrev pub TheHardProperty : Type 0
-TheHardProperty = (c : Closed) (more : List Closed) → IsChain c more → IsHard c more
+TheHardProperty = (c : ClosedSession) (more : List ClosedSession) → AreInARow c more → HoldsInWorld c more

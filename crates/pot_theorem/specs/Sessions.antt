@@ -31,7 +31,7 @@ use Rattle.pot_promises.specs.Chains.{Begins}
 -- What the contract of a run says of one session that closed, over archives that tell what they
 -- hold: the images with which it began and which it left, what the room meant before and after,
 -- the archives that the room did not take back, and what the logs gained.
-pub record Closed : Type 0 where
+pub record ClosedSession : Type 0 where
   pub first : Contents
   pub last : Contents
   pub room : Transition RoomState
@@ -51,7 +51,7 @@ pub record RanToClose (seed : List ℕ) (seen : Seen) (answer : Status) : Type 0
 
 -- its session
 abbrev pub session_of : {seed : List ℕ} {seen : Seen} {answer : Status} → RanToClose seed seen answer
-    → IsTrue seen.room.tells → Closed
+    → IsTrue seen.room.tells → ClosedSession
 session_of {seed} {seen} {answer} r told =
     record {
       first = begun (contents r.read);
@@ -76,12 +76,12 @@ RunsClose =
     → RanToClose seed seen answer ⊎ NoneClosed seen.room
 
 -- the archives of the tables with which it began
-abbrev pub named_in : Closed → List ℕ
-named_in c = flat_map archives_in c.first.tables
+abbrev pub first_archives : ClosedSession → List ℕ
+first_archives c = flat_map archives_in c.first.tables
 
 -- those that came by its logs
-abbrev pub came_in : Closed → List ℕ
-came_in c = came_by c.last.group_logs
+abbrev pub new_archives : ClosedSession → List ℕ
+new_archives c = came_by c.last.group_logs
 
 -- how many archives a rack begins with, which have the numbers from 0
 abbrev pub many_archives : Rack → ℕ
@@ -90,12 +90,12 @@ many_archives rack = rack.groups * (rack.columns + rack.parity)
 -- WHAT IS ASKED OF A SESSION
 
 -- Nothing disturbed a session. `earlier` has the archives that came in the sessions before.
-pub record IsUndisturbed (earlier : List ℕ) (c : Closed) : Type 0 where
+pub record IsUndisturbed (earlier : List ℕ) (c : ClosedSession) : Type 0 where
   -- The room took each of its archives back. Of one that is missing no clause says what it holds.
   pub back : AreBack c.missing c.first.tables c.last.group_logs
   -- No count of faults of an archive rose with which it began. A read that fails in an opening makes
   -- a slot Gone whose block is still there.
-  pub steady : (n : ℕ) → Contains (named_in c) n
+  pub steady : (n : ℕ) → Contains (first_archives c) n
       → Rose (c.room.before.means n).faults (c.room.after.means n).faults → ⊥
   -- No log names a fault, or a parity block that was not kept. A write that failed is no step of a
   -- world.
@@ -103,21 +103,21 @@ pub record IsUndisturbed (earlier : List ℕ) (c : Closed) : Type 0 where
   -- Each log has room. A full one ends a call between its entries.
   pub has_room : All (λ (log : List Entry). length log < log_bound) c.last.group_logs
   -- Each archive that came was empty. A world begins to use an archive with nothing in it.
-  pub empty : (n : ℕ) → Contains (came_in c) n → IsEmpty (c.room.before.means n)
+  pub empty : (n : ℕ) → Contains (new_archives c) n → IsEmpty (c.room.before.means n)
   -- It was none of those that the rack began with, and came in no session before. The program sees
   -- the tables and logs of its own session alone.
-  pub unused : (n : ℕ) → Contains (came_in c) n
+  pub unused : (n : ℕ) → Contains (new_archives c) n
       → (many_archives c.first.rack ≤ n) × (Contains earlier n → ⊥)
   -- No archive came twice. The room lends each archive once, of which no clause of a run speaks.
-  pub apart : AreApart (came_in c)
+  pub apart : AreApart (new_archives c)
 
 -- SESSIONS IN A ROW
 
 -- A first session: it began with the empty tables of its rack, over archives that were empty.
-pub record IsFirst (c : Closed) : Type 0 where
+pub record IsFirst (c : ClosedSession) : Type 0 where
   pub tables : c.first.tables
       ≡ map (empty_table c.first.rack) (range_with_len 0 c.first.rack.groups)
-  pub empty : (n : ℕ) → Contains (named_in c) n → IsEmpty (c.room.before.means n)
+  pub empty : (n : ℕ) → Contains (first_archives c) n → IsEmpty (c.room.before.means n)
 
 -- an archive that meant this may have lost blocks, and did nothing else
 pub record HasOnlyLost (m n : Meaning) : Type 0 where
@@ -127,24 +127,24 @@ pub record HasOnlyLost (m n : Meaning) : Type 0 where
 
 -- A next session: it began with what the one before left, over archives that had only lost blocks
 -- since.
-pub record GoesOn (c d : Closed) : Type 0 where
+pub record Succeeds (c d : ClosedSession) : Type 0 where
   pub begins : Begins c.last d.first
-  pub kept : (n : ℕ) → Contains (named_in d) n
+  pub kept : (n : ℕ) → Contains (first_archives d) n
       → HasOnlyLost (c.room.after.means n) (d.room.before.means n)
 
 -- session after session
-abbrev pub GoOn : List ℕ → Closed → List Closed → Type 0
-GoOn earlier c [] = Unit {0}
-GoOn earlier c (d ∷ more) =
-    GoesOn c d × IsUndisturbed (earlier ++ came_in c) d × GoOn (earlier ++ came_in c) d more
+abbrev pub AllSucceed : List ℕ → ClosedSession → List ClosedSession → Type 0
+AllSucceed earlier c [] = Unit {0}
+AllSucceed earlier c (d ∷ more) =
+    Succeeds c d × IsUndisturbed (earlier ++ new_archives c) d × AllSucceed (earlier ++ new_archives c) d more
 
 -- All sessions of a rack from the first one on, each over what the one before left, and none of
 -- them disturbed.
-pub record IsChain (c : Closed) (more : List Closed) : Type 0 where
+pub record AreInARow (c : ClosedSession) (more : List ClosedSession) : Type 0 where
   pub is_first : IsFirst c
   pub undisturbed : IsUndisturbed [] c
-  pub go_on : GoOn [] c more
+  pub go_on : AllSucceed [] c more
 
-abbrev pub last_session : Closed → List Closed → Closed
+abbrev pub last_session : ClosedSession → List ClosedSession → ClosedSession
 last_session c [] = c
 last_session c (d ∷ more) = last_session d more

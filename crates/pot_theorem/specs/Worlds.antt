@@ -8,11 +8,11 @@ use Rattle.pot_shared.specs.Leaving.{still}
 use Rattle.pot_world.specs.Group.{WorldGroup}
 use Rattle.pot_world.specs.Later.{Sessions}
 use Rattle.pot_world.specs.Reached.{AllGood, Move, Site, first_site}
-use Rattle.pot_theorem.specs.Sessions.{Closed, IsChain, last_session}
+use Rattle.pot_theorem.specs.Sessions.{ClosedSession, AreInARow, last_session}
 
 -- A group of a session, by its number: the table that it began with, and the log and the table that
 -- it left.
-pub record IsGroupOf (c : Closed) (g : ℕ) (read written : Table) (log : List Entry) : Type 0 where
+pub record IsGroupOf (c : ClosedSession) (g : ℕ) (read written : Table) (log : List Entry) : Type 0 where
   pub was : slice_get c.first.tables g ≡ Some read
   pub is : slice_get c.last.tables g ≡ Some written
   pub logged : slice_get c.last.group_logs g ≡ Some log
@@ -24,7 +24,7 @@ had_with read log = archives_in read ++ arrivals log
 -- A group of a world is what a session left: its table is the one to which the session's log leads
 -- from the table read, and without its relays the one written. Each archive that the group has had
 -- holds and has heard in the world what the room means by it after the session.
-pub record Shows (c : Closed) (read written : Table) (log : List Entry) (h : WorldGroup) : Type
+pub record IsAsLeft (c : ClosedSession) (read written : Table) (log : List Entry) (h : WorldGroup) : Type
     0 where
   pub leads : Replays read log h.state.table
   pub is : written ≡ still h.state.table
@@ -34,21 +34,21 @@ pub record Shows (c : Closed) (read written : Table) (log : List Entry) (h : Wor
       → h.state.heard n ≡ (c.room.after.means n).heard
 
 -- so is each
-pub record AllShow (c : Closed) (z : Site) : Type 0 where
+pub record AreAsLeft (c : ClosedSession) (z : Site) : Type 0 where
   pub count : length z.groups ≡ c.first.rack.groups
   pub each : (g : ℕ) (read written : Table) (log : List Entry) (h : WorldGroup)
-      → IsGroupOf c g read written log → slice_get z.groups g ≡ Some h → Shows c read written log h
+      → IsGroupOf c g read written log → slice_get z.groups g ≡ Some h → IsAsLeft c read written log h
 
 -- One list of moves of a world for each session, from the first groups of the rack on, leads to
 -- groups that keep their rules and are what the last session left.
-pub record IsInWorld (c : Closed) (more : List Closed) : Type 0 where
+pub record IsInWorld (c : ClosedSession) (more : List ClosedSession) : Type 0 where
   pub sessions : List (List Move)
   pub many : length sessions ≡ suc (length more)
   pub site : Site
   pub run : Sessions (first_site c.first.rack) sessions site
   pub good : AllGood site
-  pub shows : AllShow (last_session c more) site
+  pub as_left : AreAsLeft (last_session c more) site
 
 -- So it is with all runs of the program, from the first one on.
 abbrev pub RunsReach : Type 0
-RunsReach = (c : Closed) (more : List Closed) → IsChain c more → IsInWorld c more
+RunsReach = (c : ClosedSession) (more : List ClosedSession) → AreInARow c more → IsInWorld c more

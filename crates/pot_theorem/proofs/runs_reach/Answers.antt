@@ -1,5 +1,5 @@
-use Rattle.pot_theorem.proofs.Chaining.{all_begun}
+use Rattle.pot_theorem.proofs.Reaching.{runs_reach}
 use Rattle.pot_theorem.proofs.runs_reach.Goals as goal
 
 pub returns : goal.returns
-returns c = ?
+returns c = runs_reach
