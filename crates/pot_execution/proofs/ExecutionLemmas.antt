@@ -202,10 +202,10 @@ is_there : (old : GroupView) (s c : ℕ) (p : Place) → IsPlace old.number old.
 is_there old s c p is = is.1.0.0
 
 -- what looks leave as it was
-looks_keep : {told : Type 0} (job s c : ℕ) (looks : List Look) (old new : GroupView) (entries : List Entry) → LooksOn told job s c looks old new entries → AreCoherent old.shelves → AreCoherent new.shelves
-looks_keep job s c [] old new entries goes = subst (λ (w : GroupView). AreCoherent w.shelves) (sym goes.1)
-looks_keep job s c ((p, answer) ∷ rest) old new entries goes all =
-    looks_keep job p.stripe (p.column + 1) rest goes.1 new goes.3 goes.6 (coherent_keeps old.shelves goes.1.shelves goes.5.stays.keeps all)
+looks_keep : (told : Type 0) (job s c : ℕ) (looks : List Look) (old new : GroupView) (entries : List Entry) → LooksOn told job s c looks old new entries → AreCoherent old.shelves → AreCoherent new.shelves
+looks_keep told job s c [] old new entries goes all = subst (λ (w : GroupView). AreCoherent w.shelves) (sym goes.1) all
+looks_keep told job s c ((p, answer) ∷ rest) old new entries goes all =
+    looks_keep told job p.stripe (p.column + 1) rest goes.1 new goes.3 goes.6 (coherent_keeps old.shelves goes.1.shelves goes.5.stays.keeps all)
 
 -- the calls of a sweep, behind calls that came before it
 looked_on : {told : Type 0} (ns : List ℕ) (taken : ℕ → Meaning) (job s c : ℕ) (looks : List Look) (start : GroupState) (calls : List Call) (old new : GroupView) (entries : List Entry)
@@ -237,5 +237,5 @@ swept told old new job s c result arrived made execution tells =
       leads = all.1;
       blinds = all.2 ∙ was.blinds ∙ sym (look_blinds told job s c made.2.looks old new made.0 made.2.goes);
       came = all.3;
-      coherent = looks_keep job s c made.2.looks old new made.0 made.2.goes was.coherent;
+      coherent = looks_keep told job s c made.2.looks old new made.0 made.2.goes was.coherent;
     }

@@ -182,6 +182,7 @@ module _ {A : Type 0} (told : Type 0) (meaning : A → Meaning) (number : ℕ) (
   rose_in z k (inr r) = inr (subst (λ x. Rose x (now.losses_opened k)) (sym (o.stays.keeps.losses_taken k ∙ taken.losses z k)) (subst (λ y. Rose (old.losses k) y) (sym (opened.losses z k)) r))
 
   pub opened_begins : Begins told meaning number t a.shelves group
+  unfolding start_step
   opened_begins = record {
     taken = a;
     shelves = refl;

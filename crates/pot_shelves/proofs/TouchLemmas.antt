@@ -1,5 +1,5 @@
 -- Archives in a list, seen by number: a call of one of them, and the marks of all.
-use Rattle.std.proofs.Common.{◌≡◌, ◌≢◌, ◌<◌, ◌≤◌, ◌==◌, ◌↔◌, ℕ, zero, suc, Bool, true, false, List, [], ◌∷◌, length, get_or, Option, Some, None, refl, ap, sym, ◌∙◌, arith, inl, inr, subst, IsTrue}
+use Rattle.std.proofs.Common.{◌≡◌, ◌≢◌, ◌⊎◌, ◌<◌, ◌≤◌, ◌==◌, ◌↔◌, ℕ, zero, suc, Bool, true, false, List, [], ◌∷◌, ◌++◌, length, take, get_or, Option, Some, None, refl, ap, sym, ◌∙◌, arith, inl, inr, subst, IsTrue}
 use Rattle.std.specs.Prelude.{cond, map, Result, Ok, Err, Contains, IsSome, is_some, slice_get, is_ok}
 use Rattle.std.specs.List.{position, position_or_len}
 use Rattle.std.specs.Str.{bytes_eq}
@@ -11,7 +11,8 @@ use Rattle.std.proofs.lemmas.List.Elements.{Contains-append_right}
 use Rattle.std.proofs.lemmas.List.Folds.{find_at, find-set, find_past}
 use Rattle.std.proofs.lemmas.List.Sums.{position_or_len_is}
 use Rattle.std.proofs.lemmas.List.Quantifiers.{position-Some}
-use Rattle.std.proofs.lemmas.Option.{slice_get-get_or}
+use Rattle.std.proofs.lemmas.List.{map-append}
+use Rattle.std.proofs.lemmas.Option.{same_Some, slice_get-get_or}
 use Rattle.std.proofs.lemmas.Slice.Eq.{bytes_eq-Decides}
 use Rattle.pot_bytes.specs.declared.digest.Digest.{Digest}
 use Rattle.pot_bytes.specs.Digests.{digest_bytes, digest_of}
@@ -36,6 +37,40 @@ digest_tells block now bytes d r v h e =
   where
     made : List ℕ → Digest
     made xs = record { bytes = xs }
+
+-- what is among the first elements and one more is among the first, or is that one
+one_more : {X : Type 0} (xs : List X) (i : ℕ) (x : X) → Contains (take (suc i) xs) x → Contains (take i xs) x ⊎ (slice_get xs i ≡ Some x)
+one_more [] i x h = absurd (omega (arith, h.1))
+one_more (y ∷ xs) zero x (zero, lt, e) = inr (ap Some e)
+one_more (y ∷ xs) zero x (suc j, lt, e) = absurd (omega (arith, lt))
+one_more (y ∷ xs) (suc i) x (zero, lt, e) = inl (0, omega arith, e)
+one_more (y ∷ xs) (suc i) x (suc j, lt, e) = elim (one_more xs i x (j, omega (arith, lt), e)) [ inl k ↦ inl (suc k.0, omega (arith, k.1), k.2) | inr same ↦ inr same ]
+
+take_one : {X : Type 0} (xs : List X) (n i : ℕ) (x : X) → n ≡ suc i → Contains (take n xs) x → Contains (take i xs) x ⊎ (slice_get xs i ≡ Some x)
+take_one xs n i x e h = one_more xs i x (subst (λ m. Contains (take m xs) x) e h)
+
+item_is : {X : Type 0} (xs : List X) (i : ℕ) (x : X) → i < length xs → x ≡ get_or xs i x → slice_get xs i ≡ Some x
+item_is xs i x lt item = slice_get-get_or xs i x lt ∙ ap Some (sym item)
+
+-- what is said of each of the first elements, once it is said of the next
+pub all_more : {X : Type 0} (P : X → Type 0) (xs : List X) (n i : ℕ) (x : X) → n ≡ suc i → i < length xs → x ≡ get_or xs i x → ((y : X) → Contains (take i xs) y → P y) → P x
+    → (y : X) → Contains (take n xs) y → P y
+all_more P xs n i x e lt item all one y h = elim (take_one xs n i y e h) [
+  | inl k ↦ all y k
+  | inr same ↦ subst P (same_Some (sym (item_is xs i x lt item) ∙ same)) one
+]
+
+take_next : {X : Type 0} (xs : List X) (i : ℕ) (x : X) → slice_get xs i ≡ Some x → take (suc i) xs ≡ take i xs ++ x ∷ []
+take_next [] i x e = absurd (cc)
+take_next (y ∷ xs) zero x e = ap (λ z. z ∷ []) (same_Some e)
+take_next (y ∷ xs) (suc i) x e = ap (λ l. y ∷ l) (take_next xs i x e)
+
+-- what is told of the first elements in order, once it is told of the next
+pub told_more : {X Y Z : Type 0} (f : X → Z) (h : Y → Z) (old new : List X) (x : X) (ys : List Y) (n i : ℕ) (y : Y) → n ≡ suc i → i < length ys → y ≡ get_or ys i y → new ≡ old ++ x ∷ []
+    → map f old ≡ map h (take i ys) → f x ≡ h y → map f new ≡ map h (take n ys)
+told_more f h old new x ys n i y e lt item grown were one =
+    ap (map f) grown ∙ map-append f old (x ∷ []) ∙ ap (λ l. l ++ f x ∷ []) were ∙ ap (λ z. map h (take i ys) ++ z ∷ []) one
+    ∙ sym (ap (λ m. map h (take m ys)) e ∙ ap (map h) (take_next ys i y (item_is ys i y lt item)) ∙ map-append h (take i ys) (y ∷ []))
 
 -- THE PLACE OF A NUMBER
 

@@ -21,7 +21,11 @@ returns-then-is_err-clause-writes c = record {
   cause = search rules;
 }
 
-pub invariant_of-self-in-Ok : goal.invariant_of-self-in-Ok
-invariant_of-self-in-Ok c =
+pub invariant_of-self-in-Ok-clause-kept : goal.invariant_of-self-in-Ok-clause-kept
+invariant_of-self-in-Ok-clause-kept c =
     let stored : is_ok c.push.result ≡ true = grind (arith, common_steps, c.is_err.ensures.value, c.is_err.ensures.negation) in
-    rw (c.push.ensures.items, stored) (record { kept = kept_written c.begin.new.self.blocks c.insert.new.self c.begin.new.self.past.items _ c.args.block.now c.begin.new.self.kept c.in-Ok.ensures.updates.0 })
+    rw (c.push.ensures.items, stored) (kept_written c.begin.new.self.blocks c.insert.new.self c.begin.new.self.past.items _ c.args.block.now c.begin.new.self.kept c.in-Ok.ensures.updates.0)
+
+pub invariant_of-self-in-Ok-clause-low : goal.invariant_of-self-in-Ok-clause-low
+invariant_of-self-in-Ok-clause-low c =
+    low_written c.begin.new.self.blocks c.insert.new.self c.args.slot c.args.block.now (omega arith) c.begin.new.self.low c.in-Ok.ensures.updates.0
