@@ -89,13 +89,13 @@ go_all used (g ∷ gs) (p ∷ ps) (q ∷ qs) f begun each =
     let r = ran_of q in
     let lost = begins_again used g (state_of p.view) q.execution.start f.0 begun.0 in
     let one = follows_all used lost.group r.calls r.old r.new lost.follows r.leads each.0 in
-    let then = used_by_all r.calls used in
+    let used_then = used_by_all r.calls used in
     let acts = lost.acts ++ one.acts in
-    let go = acts_join used used then (reopened g) lost.group one.group lost.acts one.acts lost.go one.go in
-    let more = go_all then gs ps qs (new_calls r.calls used gs (all_ran ps) f.1) begun.1 each.1 in (
+    let go = acts_join used used used_then (reopened g) lost.group one.group lost.acts one.acts lost.go one.go in
+    let more = go_all used_then gs ps qs (new_calls r.calls used gs (all_ran ps) f.1) begun.1 each.1 in (
       first acts ++ next more.0,
       one.group ∷ more.1,
-      reach_join (first acts) (next more.0) (site used (reopened g ∷ map reopened gs)) (site then (one.group ∷ map reopened gs)) (site (used_by_each (all_ran qs) then) (one.group ∷ more.1))
-          (reach_first used then (reopened g) one.group (map reopened gs) acts go) (reach_next then (used_by_each (all_ran qs) then) one.group (map reopened gs) more.1 more.0 more.2),
-      (follows_each (all_ran qs) then one.group r.new one.follows, more.3),
+      reach_join (first acts) (next more.0) (site used (reopened g ∷ map reopened gs)) (site used_then (one.group ∷ map reopened gs)) (site (used_by_each (all_ran qs) used_then) (one.group ∷ more.1))
+          (reach_first used used_then (reopened g) one.group (map reopened gs) acts go) (reach_next used_then (used_by_each (all_ran qs) used_then) one.group (map reopened gs) more.1 more.0 more.2),
+      (follows_each (all_ran qs) used_then one.group r.new one.follows, more.3),
     )
