@@ -65,8 +65,8 @@ starts_anew used g p q f anew =
       flights = u.flights;
       held = λ n slot h. u.held n slot (first n h) ∙ same n slot (first n h);
       heard = λ n h. u.heard n (first n h) ∙ anew.heard n (first n h);
-      none = λ n slot no. u.none n slot (λ h. no (start n h));
-      silent = λ n no. u.silent n (λ h. no (start n h));
+      none = λ n slot absent. u.none n slot (λ h. absent (start n h));
+      silent = λ n absent. u.silent n (λ h. absent (start n h));
     }
   where
     first : (n : ℕ) → Contains (archives_in q.execution.start.table) n → Contains (archives_in q.view.first) n

@@ -52,11 +52,11 @@ reopened_simulates used g end start f anew = record {
     flights = sym anew.flights;
     held = λ n k. elim (among (archives_in start.table) n) [
       | inl h ↦ of_listed g.state.table None (λ m. g.state.held m k) n (here n h) ∙ f.same.held n k ∙ sym (anew.held n k h)
-      | inr no ↦ of_unlisted g.state.table None (λ m. g.state.held m k) n (λ h. no (there n h)) ∙ sym (anew.none n k no)
+      | inr absent ↦ of_unlisted g.state.table None (λ m. g.state.held m k) n (λ h. absent (there n h)) ∙ sym (anew.none n k absent)
     ];
     heard = λ n. elim (among (archives_in start.table) n) [
       | inl h ↦ of_listed g.state.table [] g.state.heard n (here n h) ∙ f.same.heard n ∙ sym (anew.heard n h)
-      | inr no ↦ of_unlisted g.state.table [] g.state.heard n (λ h. no (there n h)) ∙ sym (anew.silent n no)
+      | inr absent ↦ of_unlisted g.state.table [] g.state.heard n (λ h. absent (there n h)) ∙ sym (anew.silent n absent)
     ];
   };
 }
