@@ -1,39 +1,24 @@
 -- Session after session, as moves of a world.
-use Rattle.std.proofs.Common.{◌≡◌, ◌⊎◌, inl, inr, ⊎_elim, ℕ, zero, suc, ◌<◌, ◌≤◌, ◌+◌, ◌*◌, List, [], ◌∷◌, ◌++◌, Option, Some, None, Bool, true, false, IsTrue, nat_lt, refl, sym, ap, ◌∙◌, subst, arith, length, map}
-use Rattle.std.specs.Prelude.{◌==◌, ◌||◌, ◌^◌, All, Contains, flat_map, slice_get, slice_index_or}
-use Rattle.std.specs.List.{range_with_len}
+use Rattle.std.proofs.Common.{◌≡◌, ◌⊎◌, inl, inr, ⊎_elim, ℕ, zero, suc, ◌<◌, List, [], ◌∷◌, ◌++◌, Option, Some, None, true, IsTrue, refl, sym, ◌∙◌, subst, arith, length}
+use Rattle.std.specs.Prelude.{◌==◌, ◌||◌, Contains, flat_map, slice_get, slice_index_or}
 use Rattle.std.proofs.lemmas.Bool.Decides.{nat_tests}
 use Rattle.std.proofs.lemmas.List.Elements.{Contains-append_left, Contains-append_right, Contains-append_cases}
-use Rattle.std.proofs.lemmas.Option.{same_Some}
-use Rattle.pot_bytes.proofs.Elements.{element_at, none_contained}
-use Rattle.pot_bytes.specs.declared.rack.Rack.{Rack}
-use Rattle.pot_outside.specs.Archives.{Meaning}
+use Rattle.pot_bytes.proofs.Elements.{none_contained}
 use Rattle.pot_machine.specs.declared.column.Column.{Column}
 use Rattle.pot_machine.specs.declared.column.Moving.{Moving}
-use Rattle.pot_machine.specs.declared.entry.Entry.{Entry}
 use Rattle.pot_machine.specs.Column.{homes_of, names, names_moved, target_of}
-use Rattle.pot_machine.specs.Making.{empty_table}
 use Rattle.pot_machine.specs.Table.{Table, archives_in, column_at, no_column, width}
-use Rattle.pot_machine.specs.Rules.{IsTable}
-use Rattle.pot_steps.specs.GroupStep.{GroupState}
 use Rattle.pot_group.specs.Arrivals.{arrivals}
 use Rattle.pot_group.specs.Group.{GroupView, IsSettled, state_of}
 use Rattle.pot_shared.specs.Groups.{had_by}
 use Rattle.pot_shared.specs.Hands.{times}
 use Rattle.pot_shared.specs.Leaving.{still}
 use Rattle.pot_session.proofs.StripeLemmas.{column_had}
-use Rattle.pot_session.specs.Losses.{AreBack, all_had}
 use Rattle.pot_execution.proofs.Came.{among}
-use Rattle.pot_world.specs.Group.{WorldGroup}
-use Rattle.pot_world.specs.Later.{Sessions, of_table, reopened, reopened_site}
-use Rattle.pot_world.specs.Reached.{Move, Reaches, Site, first_site, first_used}
-use Rattle.pot_world.proofs.Later.{first_reopened, of_listed, of_unlisted}
-use Rattle.pot_refinement.specs.Refinement.{AllWentWell, AreNew, EachRan, IsEmpty, IsNew, Past, SimulateNew, all_ran, used_by_each, used_since}
-use Rattle.pot_refinement.proofs.Ended.{all_used, all_well, first_session}
-use Rattle.pot_refinement.proofs.Executions.{makes, site}
-use Rattle.pot_theorem.specs.Sessions.{ClosedSession, AllSucceed, Succeeds, HasOnlyLost, IsFirst, IsUndisturbed, new_archives, last_session, many_archives, first_archives}
-use Rattle.pot_theorem.proofs.Between.{AllBegun, Begun, go_all, kept_state}
-use Rattle.pot_theorem.proofs.Groups.{Asks, One, Ones, all_went, came_of, empty_then, had_here, had_there, heard_then, named_of, ones_of, past_of, pasts_of, reads, logs, writtens, shown, since, took}
+use Rattle.pot_world.proofs.Later.{of_listed, of_unlisted}
+use Rattle.pot_theorem.specs.Sessions.{ClosedSession, HasOnlyLost}
+use Rattle.pot_theorem.proofs.Between.{AllBegun, Begun}
+use Rattle.pot_theorem.proofs.Groups.{One, came_of, had_there, heard_then, named_of, ones_of, pasts_of, reads, writtens, shown, took}
 
 -- the groups of a session
 abbrev pub all_of : (c : ClosedSession) → List (One c)

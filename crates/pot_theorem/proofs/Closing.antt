@@ -1,5 +1,5 @@
 -- A run has one session that closed, or none.
-use Rattle.std.proofs.Common.{◌≡◌, ◌⊎◌, inl, inr, ℕ, List, IsTrue}
+use Rattle.std.proofs.Common.{◌⊎◌, inl, inr, ℕ, List}
 use Rattle.pot_outside.specs.Accounts.{held_in}
 use Rattle.pot_script.specs.declared.grouping.Step.{Step}
 use Rattle.pot_image.specs.declared.image.Image.{Image}
@@ -7,7 +7,7 @@ use Rattle.pot_image.specs.Images.{contents}
 use Rattle.pot_image.specs.Rules.{FitsTogether}
 use Rattle.pot_session.specs.declared.ending.status.Status.{Status}
 use Rattle.pot_session.specs.Desks.{begun}
-use Rattle.pot_session.specs.Runs.{Holds, IsOf, Seen, Served, Stopped}
+use Rattle.pot_session.specs.Runs.{IsOf, Seen, Served, Stopped}
 use Rattle.pot_session.specs.Serving.{Serves, Closed, Unlent, Unopened}
 use Rattle.pot_theorem.specs.Sessions.{NoneClosed, RanToClose, RunsClose}
 

@@ -1,19 +1,16 @@
 -- The groups that a session left, one after another, with what the contract of the run says of each.
-use Rattle.std.proofs.Common.{◌≡◌, ◌⊎◌, inl, inr, ℕ, zero, suc, ◌<◌, ◌≤◌, ◌+◌, ◌*◌, List, [], ◌∷◌, ◌++◌, Option, Some, None, Bool, true, false, ◌||◌, IsTrue, refl, sym, ap, ◌∙◌, subst, arith, length, map}
+use Rattle.std.proofs.Common.{◌≡◌, inl, inr, ℕ, suc, ◌<◌, List, [], ◌∷◌, ◌++◌, Some, Bool, true, false, ◌||◌, IsTrue, refl, sym, ap, ◌∙◌, subst, arith, length, map}
 use Rattle.std.specs.Prelude.{◌==◌, ◌^◌, All, Contains, flat_map, slice_get}
 use Rattle.std.proofs.lemmas.Bool.{eqb-true}
-use Rattle.std.proofs.lemmas.List.Elements.{All-head, All-tail, Contains-append_left, Contains-append_right, Contains-append_cases}
+use Rattle.std.proofs.lemmas.List.Elements.{All-head, All-tail, Contains-append_left, Contains-append_right}
 use Rattle.pot_bytes.specs.Rack.{log_bound}
 use Rattle.pot_outside.specs.Archives.{Meaning}
 use Rattle.pot_outside.specs.Counts.{Rose}
 use Rattle.pot_outside.specs.declared.archive.Marks.{Marks}
 use Rattle.pot_machine.specs.declared.entry.Entry.{Entry}
 use Rattle.pot_machine.specs.Table.{Table, archives_in}
-use Rattle.pot_shelves.specs.Shelves.{Shelves}
 use Rattle.pot_group.specs.Arrivals.{arrivals}
-use Rattle.pot_group.specs.Group.{GroupView}
 use Rattle.pot_shared.specs.declared.member.Taking.{Taking}
-use Rattle.pot_shared.specs.Coming.{marks_of}
 use Rattle.pot_shared.specs.Groups.{had_by}
 use Rattle.pot_shared.specs.Hands.{AreApart, times}
 use Rattle.pot_shared.specs.Leaving.{LeavesGroup}
@@ -146,9 +143,9 @@ come_empty (n ∷ ns) used taken unused empty apart = (
   unused n (here n ns),
   empty n (here n ns),
   come_empty ns (with_use used n) taken
-  (λ m h. one_more used n m (unused m (Contains-append_right (n ∷ []) ns m h)) (λ e. twice (n ∷ []) ns n apart (here n []) (subst (λ k. Contains ns k) (sym e) h)))
-  (λ m h. empty m (Contains-append_right (n ∷ []) ns m h))
-  (back_apart (n ∷ []) ns apart),
+      (λ m h. one_more used n m (unused m (Contains-append_right (n ∷ []) ns m h)) (λ e. twice (n ∷ []) ns n apart (here n []) (subst (λ k. Contains ns k) (sym e) h)))
+      (λ m h. empty m (Contains-append_right (n ∷ []) ns m h))
+      (back_apart (n ∷ []) ns apart),
 )
 
 -- GROUPS THAT WENT WELL
@@ -178,7 +175,7 @@ one_well c used o clean room asks = record {
   clean = subst Clean (sym o.left.is_log) clean;
   room = subst HasRoom (sym o.left.is_log) room;
   steady = λ n h failed. (let r = subst (λ (t : Table). Contains (archives_in t) n) o.left.first h in
-  steadily c o n (Contains-append_left (archives_in o.left.view.first) (arrivals o.left.view.log) n h) (asks.back_named n r) (asks.steady n r) failed);
+      steadily c o n (Contains-append_left (archives_in o.left.view.first) (arrivals o.left.view.log) n h) (asks.back_named n r) (asks.steady n r) failed);
   come = subst (λ l. ComeEmpty used o.left.view.shelves.taken (arrivals l)) (sym o.left.is_log)
       (come_empty (arrivals o.log) used o.left.view.shelves.taken asks.unused (λ n h. empty_then c o n (had_here c o n (Contains-append_right (archives_in o.read) (arrivals o.log) n h)) (asks.empty n h)) asks.apart);
 }

@@ -1,5 +1,4 @@
 -- What worlds say of the runs of the program.
-use Rattle.std.proofs.Common.{List}
 use Rattle.pot_theorem.specs.Hard.{TheHardProperty}
 use Rattle.pot_theorem.specs.Sessions.{last_session}
 use Rattle.pot_theorem.proofs.Reaching.{reaches}

@@ -1,5 +1,5 @@
 -- All sessions of a chain are sessions of a world.
-use Rattle.std.proofs.Common.{◌≡◌, ◌⊎◌, inl, inr, ⊎_elim, ℕ, zero, suc, ◌<◌, ◌≤◌, ◌+◌, ◌*◌, List, [], ◌∷◌, ◌++◌, Option, Some, Bool, true, false, IsTrue, nat_lt, refl, sym, ap, ◌∙◌, subst, arith, length, map}
+use Rattle.std.proofs.Common.{◌≡◌, ◌⊎◌, inl, inr, ℕ, zero, suc, ◌<◌, ◌≤◌, ◌+◌, List, [], ◌∷◌, ◌++◌, Some, Bool, false, IsTrue, nat_lt, refl, sym, ap, ◌∙◌, subst, arith, length, map}
 use Rattle.std.specs.Prelude.{All, Contains, flat_map, slice_get}
 use Rattle.std.specs.List.{range_with_len}
 use Rattle.std.proofs.lemmas.Bool.Decides.{nat_tests}
@@ -10,7 +10,7 @@ use Rattle.pot_bytes.specs.Rack.{log_bound}
 use Rattle.pot_machine.specs.declared.entry.Entry.{Entry}
 use Rattle.pot_machine.specs.Machine.{Replays}
 use Rattle.pot_machine.specs.Making.{empty_table}
-use Rattle.pot_machine.specs.Table.{Table, archives_in, width}
+use Rattle.pot_machine.specs.Table.{Table, archives_in}
 use Rattle.pot_group.specs.Arrivals.{arrivals}
 use Rattle.pot_group.specs.Group.{state_of}
 use Rattle.pot_image.specs.Rules.{FitsTable}
@@ -18,18 +18,17 @@ use Rattle.pot_shared.specs.Groups.{had_by}
 use Rattle.pot_shared.specs.Hands.{times}
 use Rattle.pot_shared.specs.Leaving.{still}
 use Rattle.pot_shared.proofs.Lists.{all_at_place, flat_contains}
-use Rattle.pot_session.specs.Losses.{AreBack, all_had}
 use Rattle.pot_session.specs.Serving.{came_by}
 use Rattle.pot_world.specs.Group.{WorldGroup}
 use Rattle.pot_world.specs.Later.{Sessions, reopened_site}
 use Rattle.pot_world.specs.Reached.{EachGroup, IsGood, Move, Reaches, Site, first_site, first_used}
 use Rattle.pot_world.proofs.Later.{first_reopened}
-use Rattle.pot_refinement.specs.Refinement.{AllWentWell, AreNew, IsEmpty, IsNew, SimulateNew, Simulates, all_ran, is_clean, used_by_each, used_since}
+use Rattle.pot_refinement.specs.Refinement.{AllWentWell, AreNew, IsEmpty, SimulateNew, Simulates, all_ran, is_clean, used_by_each, used_since}
 use Rattle.pot_refinement.proofs.Ended.{all_used, all_well, first_session}
 use Rattle.pot_refinement.proofs.Executions.{makes, site}
 use Rattle.pot_theorem.specs.Worlds.{AreAsLeft, IsGroupOf, IsInWorld, RunsReach, IsAsLeft, had_with}
 use Rattle.pot_theorem.specs.Sessions.{ClosedSession, AllSucceed, Succeeds, AreInARow, IsFirst, IsUndisturbed, new_archives, last_session, many_archives, first_archives}
-use Rattle.pot_theorem.proofs.Between.{AllBegun, go_all}
+use Rattle.pot_theorem.proofs.Between.{go_all}
 use Rattle.pot_theorem.proofs.Chaining.{HasColumns, all_begun, all_of}
 use Rattle.pot_theorem.proofs.Groups.{Asks, One, all_went, came_of, empty_then, had_here, logs, named_of, ones_of, pasts_of, reads, shown, since, writtens}
 
@@ -103,10 +102,10 @@ all_new c rack n (suc more) (o ∷ os) are empty = (
         (empty m (Contains-append_left (archives_in o.read) (named_of c os) m (subst (λ (t : Table). Contains (archives_in t) m) o.left.first h)));
   },
   all_new c rack (suc n) more os
-  (let h : reads c os ≡ map (empty_table rack) (range_with_len (n + 1) more) = cc are in
-  let next : n + 1 ≡ suc n = omega arith in
-  subst (λ k. reads c os ≡ map (empty_table rack) (range_with_len k more)) next h)
-  (λ m h. empty m (Contains-append_right (archives_in o.read) (named_of c os) m h)),
+      (let h : reads c os ≡ map (empty_table rack) (range_with_len (n + 1) more) = cc are in
+      let next : n + 1 ≡ suc n = omega arith in
+      subst (λ k. reads c os ≡ map (empty_table rack) (range_with_len k more)) next h)
+      (λ m h. empty m (Contains-append_right (archives_in o.read) (named_of c os) m h)),
 )
 
 new_first : (c : ClosedSession) → IsFirst c → AreNew c.first.rack 0 c.first.rack.groups (pasts_of c (all_of c))

@@ -1,11 +1,9 @@
 -- Stripes and places of what sessions left, as the world has them.
-use Rattle.std.proofs.Common.{◌≡◌, ◌≢◌, ◌⊎◌, inl, inr, ⊎_elim, ℕ, zero, suc, ◌<◌, ◌+◌, List, [], ◌∷◌, ◌++◌, Option, Some, None, IsTrue, refl, sym, ap, ◌∙◌, subst, arith, length, map}
+use Rattle.std.proofs.Common.{◌≡◌, ℕ, zero, suc, ◌<◌, List, [], ◌∷◌, ◌++◌, Some, IsTrue, refl, sym, ap, ◌∙◌, subst, arith, length}
 use Rattle.std.specs.Prelude.{Contains, slice_get}
-use Rattle.std.proofs.lemmas.List.Elements.{Contains-append_left, Contains-append_right}
 use Rattle.std.proofs.lemmas.Option.{same_Some, slice_get_within}
 use Rattle.pot_bytes.specs.declared.digest.Digest.{Digest}
 use Rattle.pot_bytes.specs.declared.rack.Rack.{Rack}
-use Rattle.pot_bytes.specs.Digests.{digest_of}
 use Rattle.pot_bytes.proofs.Elements.{element_at}
 use Rattle.pot_machine.specs.declared.entry.Entry.{Entry}
 use Rattle.pot_machine.specs.declared.entry.Entry.TheVariants.{Put, Put2}
@@ -15,17 +13,15 @@ use Rattle.pot_machine.specs.Logs.{Fills}
 use Rattle.pot_machine.specs.Machine.{Legal, Replays, after}
 use Rattle.pot_machine.specs.Rules.{IsTable}
 use Rattle.pot_machine.specs.Table.{Table, archives_in, column_at, serving_at, slot_at, width}
-use Rattle.pot_machine.proofs.Filled.{digest_of_filled, not_void, put_digest}
+use Rattle.pot_machine.proofs.Filled.{not_void, put_digest}
 use Rattle.pot_machine.proofs.Kept.{after_keeps}
 use Rattle.pot_machine.proofs.LeftAlone.{data_stays, put_column, sizes_stay}
 use Rattle.pot_steps.specs.Stripe.{IsSound}
 use Rattle.pot_steps.specs.Holdings.{stripe_of}
 use Rattle.pot_steps.proofs.Steps.{filling_stays}
 use Rattle.pot_group.specs.Arrivals.{arrivals}
-use Rattle.pot_group.specs.Group.{state_of}
 use Rattle.pot_image.specs.Rules.{FitsTable}
 use Rattle.pot_shared.specs.Groups.{had_by}
-use Rattle.pot_shared.specs.Hands.{times}
 use Rattle.pot_shared.specs.Leaving.{still}
 use Rattle.pot_shared.proofs.GroupLemmas.{serves_there}
 use Rattle.pot_shared.proofs.Lists.{all_at_place}
@@ -35,8 +31,7 @@ use Rattle.pot_world.specs.Kept.{IsKept}
 use Rattle.pot_world.specs.Reached.{Site}
 use Rattle.pot_world.proofs.Ending.{relay_gives}
 use Rattle.pot_world.proofs.Flights.{flies, found_at}
-use Rattle.pot_world.proofs.Holding.{kept_holds}
-use Rattle.pot_theorem.specs.Hard.{AreCodewords, HomesServe, NoneIsOdd, PlacesStand, StripesStand}
+use Rattle.pot_theorem.specs.Hard.{AreCodewords, NoneIsOdd, PlacesStand, StripesStand}
 use Rattle.pot_theorem.specs.Sessions.{ClosedSession, AllSucceed, Succeeds, new_archives, last_session}
 use Rattle.pot_theorem.specs.Worlds.{IsGroupOf, IsAsLeft, had_with}
 use Rattle.pot_theorem.proofs.Chaining.{HasColumns, named_had, table_had}

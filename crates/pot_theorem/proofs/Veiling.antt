@@ -1,6 +1,6 @@
 -- What a coalition of columns sees of what sessions left.
-use Rattle.std.proofs.Common.{◌≡◌, ℕ, zero, suc, ◌<◌, List, [], ◌∷◌, Bool, true, false, Some, IsTrue, refl, sym, ap, ◌∙◌, subst}
-use Rattle.std.specs.Prelude.{Contains, slice_get}
+use Rattle.std.proofs.Common.{◌≡◌, ℕ, zero, suc, ◌<◌, List, [], ◌∷◌, Bool, false, Some, IsTrue, refl, sym, ap, ◌∙◌, subst}
+use Rattle.std.specs.Prelude.{slice_get}
 use Rattle.std.proofs.lemmas.Option.{same_Some}
 use Rattle.pot_bytes.specs.declared.rack.Rack.{Rack}
 use Rattle.pot_bytes.specs.Lists.{IsBlock}
@@ -9,10 +9,7 @@ use Rattle.pot_bytes.specs.Sums.{zero_block}
 use Rattle.pot_machine.specs.declared.entry.Entry.{Entry}
 use Rattle.pot_machine.specs.Column.{names}
 use Rattle.pot_machine.specs.Table.{Table, column_at, width}
-use Rattle.pot_shared.specs.Leaving.{still}
-use Rattle.pot_world.specs.Acts.{Act}
 use Rattle.pot_world.specs.Audit.{AllFits, AllSame, Blind, One, SeesSame, Sight, Whole, sight_of}
-use Rattle.pot_world.specs.Coalition.{Served}
 use Rattle.pot_world.specs.Group.{WorldGroup}
 use Rattle.pot_world.specs.Later.{Both, IsLow, Known, OtherSessions, Sessions, SessionsFit, reopened_site}
 use Rattle.pot_world.specs.Reached.{EachGroup, Loses, Makes, Move, Site, first_site, moved}
@@ -21,7 +18,7 @@ use Rattle.pot_world.proofs.Auditing.{first_both, sights_fit}
 use Rattle.pot_world.proofs.Later.{reopened_both, runs_seen_on}
 use Rattle.pot_theorem.specs.Hard.{HomesServe, SeesInRoom, IsVeiled}
 use Rattle.pot_theorem.specs.Sessions.{ClosedSession, last_session}
-use Rattle.pot_theorem.specs.Worlds.{AreAsLeft, IsGroupOf, IsInWorld, IsAsLeft}
+use Rattle.pot_theorem.specs.Worlds.{IsInWorld, IsAsLeft}
 use Rattle.pot_theorem.proofs.Reaching.{IsReached, as_left}
 use Rattle.pot_theorem.proofs.Standing.{of_named}
 

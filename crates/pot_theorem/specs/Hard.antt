@@ -1,5 +1,5 @@
 -- What worlds say of the runs of the program.
-use Rattle.std.specs.Prelude.{◌≡◌, ◌≢◌, ◌<◌, ℕ, Bool, true, List, [], ◌∷◌, Contains, None, Some}
+use Rattle.std.specs.Prelude.{◌≡◌, ◌≢◌, ◌<◌, ℕ, Bool, true, List, ◌∷◌, Contains, None, Some}
 use Rattle.std.specs.Prelude.{IsTrue, slice_get}
 use Rattle.pot_bytes.specs.declared.digest.Digest.{Digest}
 use Rattle.pot_bytes.specs.Digests.{digest_of}
