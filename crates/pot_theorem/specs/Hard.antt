@@ -27,8 +27,8 @@ use Rattle.pot_theorem.specs.Worlds.{IsGroupOf, IsInWorld, had_with}
 -- STRIPES
 
 -- Each stripe of a table is a codeword of blocks written, whatever was lost since: no slot is
--- Broken, the blocks have the digests of their slots and weighted sums of zero, and the archive that
--- serves a slot that is not Void means its block or none.
+-- Broken, the blocks have the digests of their slots and weighted sums of zero, and the archive
+-- that serves a slot that is not Void means its block or none.
 pub record AreCodewords (means : ℕ → Meaning) (t : Table) (blocks : ℕ → ℕ → List ℕ) : Type 0 where
   pub unbroken : (s k : ℕ) (d : Digest) → s < t.stripes → k < width t → slot_at t s k ≢ Broken d
   pub filled : (s : ℕ) → s < t.stripes
@@ -66,7 +66,8 @@ PlacesStand c z =
 -- means. It sees what each archive of the group holds that has served its column in the session,
 -- and, where the blinds are exchanged, what it has heard; or, of a group of which it sees all, what
 -- each archive holds and has heard.
-abbrev pub SeesInRoom : Bool → Sight → ClosedSession → Table → List Entry → (g h : WorldGroup) → Type 0
+abbrev pub SeesInRoom : Bool → Sight → ClosedSession → Table → List Entry → (g h : WorldGroup)
+    → Type 0
 SeesInRoom exchanges Whole c read log g h =
     (n : ℕ) → Contains (had_with read log) n
     → ((slot : ℕ) → h.state.held n slot ≡ (c.room.after.means n).held slot)
@@ -85,8 +86,8 @@ abbrev pub IsVeiled : (c : ClosedSession) (more : List ClosedSession) → IsInWo
 IsVeiled c more w =
     (exchanges : Bool) (coalition : ℕ → ℕ → Bool) (bytes : ℕ → ℕ → List ℕ)
     → ((n m : ℕ) → IsBlock (bytes n m))
-    → SessionsFit (sight_of c.first.rack coalition) bytes (first_site c.first.rack) w.sessions w.site
-    w.run
+    → SessionsFit (sight_of c.first.rack coalition) bytes (first_site c.first.rack) w.sessions
+    w.site w.run
     → (v : Site)
     × OtherSessions exchanges (sight_of c.first.rack coalition) bytes (first_site c.first.rack)
     (first_site c.first.rack) w.sessions w.site w.run v
@@ -113,4 +114,5 @@ pub record HoldsInWorld (c : ClosedSession) (more : List ClosedSession) : Type 0
   pub serve : HomesServe (last_session c more) world.site
 
 abbrev pub TheHardProperty : Type 0
-TheHardProperty = (c : ClosedSession) (more : List ClosedSession) → AreInARow c more → HoldsInWorld c more
+TheHardProperty =
+    (c : ClosedSession) (more : List ClosedSession) → AreInARow c more → HoldsInWorld c more

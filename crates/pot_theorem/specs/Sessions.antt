@@ -50,8 +50,8 @@ pub record RanToClose (seed : List ℕ) (seen : Seen) (answer : Status) : Type 0
   pub closed : IsClosed seed (begun (contents read)) steps seen.room seen.sink seen.desk answer
 
 -- its session
-abbrev pub session_of : {seed : List ℕ} {seen : Seen} {answer : Status} → RanToClose seed seen answer
-    → IsTrue seen.room.tells → ClosedSession
+abbrev pub session_of : {seed : List ℕ} {seen : Seen} {answer : Status}
+    → RanToClose seed seen answer → IsTrue seen.room.tells → ClosedSession
 session_of {seed} {seen} {answer} r told =
     record {
       first = begun (contents r.read);
@@ -93,8 +93,8 @@ many_archives rack = rack.groups * (rack.columns + rack.parity)
 pub record IsUndisturbed (earlier : List ℕ) (c : ClosedSession) : Type 0 where
   -- The room took each of its archives back. Of one that is missing no clause says what it holds.
   pub back : AreBack c.missing c.first.tables c.last.group_logs
-  -- No count of faults of an archive rose with which it began. A read that fails in an opening makes
-  -- a slot Gone whose block is still there.
+  -- No count of faults of an archive rose with which it began. A read that fails in an opening
+  -- makes a slot Gone whose block is still there.
   pub steady : (n : ℕ) → Contains (first_archives c) n
       → Rose (c.room.before.means n).faults (c.room.after.means n).faults → ⊥
   -- No log names a fault, or a parity block that was not kept. A write that failed is no step of a
@@ -136,7 +136,8 @@ pub record Succeeds (c d : ClosedSession) : Type 0 where
 abbrev pub AllSucceed : List ℕ → ClosedSession → List ClosedSession → Type 0
 AllSucceed earlier c [] = Unit {0}
 AllSucceed earlier c (d ∷ more) =
-    Succeeds c d × IsUndisturbed (earlier ++ new_archives c) d × AllSucceed (earlier ++ new_archives c) d more
+    Succeeds c d × IsUndisturbed (earlier ++ new_archives c) d
+    × AllSucceed (earlier ++ new_archives c) d more
 
 -- All sessions of a rack from the first one on, each over what the one before left, and none of
 -- them disturbed.

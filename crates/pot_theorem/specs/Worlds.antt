@@ -12,7 +12,8 @@ use Rattle.pot_theorem.specs.Sessions.{ClosedSession, AreInARow, last_session}
 
 -- A group of a session, by its number: the table that it began with, and the log and the table that
 -- it left.
-pub record IsGroupOf (c : ClosedSession) (g : ℕ) (read written : Table) (log : List Entry) : Type 0 where
+pub record IsGroupOf (c : ClosedSession) (g : ℕ) (read written : Table) (log : List Entry) : Type
+    0 where
   pub was : slice_get c.first.tables g ≡ Some read
   pub is : slice_get c.last.tables g ≡ Some written
   pub logged : slice_get c.last.group_logs g ≡ Some log
@@ -24,8 +25,8 @@ had_with read log = archives_in read ++ arrivals log
 -- A group of a world is what a session left: its table is the one to which the session's log leads
 -- from the table read, and without its relays the one written. Each archive that the group has had
 -- holds and has heard in the world what the room means by it after the session.
-pub record IsAsLeft (c : ClosedSession) (read written : Table) (log : List Entry) (h : WorldGroup) : Type
-    0 where
+pub record IsAsLeft (c : ClosedSession) (read written : Table) (log : List Entry)
+    (h : WorldGroup) : Type 0 where
   pub leads : Replays read log h.state.table
   pub is : written ≡ still h.state.table
   pub held : (n slot : ℕ) → Contains (had_with read log) n
@@ -37,7 +38,8 @@ pub record IsAsLeft (c : ClosedSession) (read written : Table) (log : List Entry
 pub record AreAsLeft (c : ClosedSession) (z : Site) : Type 0 where
   pub count : length z.groups ≡ c.first.rack.groups
   pub each : (g : ℕ) (read written : Table) (log : List Entry) (h : WorldGroup)
-      → IsGroupOf c g read written log → slice_get z.groups g ≡ Some h → IsAsLeft c read written log h
+      → IsGroupOf c g read written log → slice_get z.groups g ≡ Some h
+      → IsAsLeft c read written log h
 
 -- One list of moves of a world for each session, from the first groups of the rack on, leads to
 -- groups that keep their rules and are what the last session left.

@@ -1,5 +1,5 @@
-//! The one theorem of runs: what sessions of the program leave, from the first one on, is what moves
-//! of a world lead to; and so what worlds say of stripes, places and secrecy holds of it.
+//! The one theorem of runs: what sessions of the program leave, from the first one on, is what
+//! moves of a world lead to; and so what worlds say of stripes, places and secrecy holds of it.
 //!
 //! It has definitions and laws alone, and no code that does anything. A law is a function whose
 //! `ensures` is its statement.
@@ -8,8 +8,8 @@
 //! 2. A chain of sessions that closed, each over what the one before left and none of them
 //!    disturbed, is sessions of moves of a world: its last groups are those that the last session
 //!    left, with what the room means then (`runs_reach`).
-//! 3. Hence each stripe is a codeword, each block put is in it at its place, and what a coalition of
-//!    columns sees is what other bytes would have given as well (`the_hard_property`).
+//! 3. Hence each stripe is a codeword, each block put is in it at its place, and what a coalition
+//!    of columns sees is what other bytes would have given as well (`the_hard_property`).
 #![tactic(auto)]
 
 ghost use Rattle.pot_theorem.specs.Hard.{TheHardProperty};
