@@ -1,5 +1,5 @@
 -- What archives meant at their taking, and their marks, over a call.
-use Rattle.std.proofs.Common.{◌≡◌, ◌<◌, true, ℕ, List, [], ◌∷◌, ◌++◌, Some, None, inl, inr, refl, sym, ap, ◌∙◌, subst, arith}
+use Rattle.std.proofs.Common.{◌≡◌, ◌<◌, true, ℕ, List, Some, None, inl, inr, sym, ap, ◌∙◌, subst}
 use Rattle.std.specs.Prelude.{Contains}
 use Rattle.std.proofs.lemmas.Bool.{cases_eq}
 use Rattle.std.proofs.lemmas.List.Elements.{Contains-append_left}
@@ -14,7 +14,7 @@ use Rattle.pot_shelves.specs.Shelves.{Brings, Keeps, Shelves}
 use Rattle.pot_group.specs.Arrivals.{HasArrived, arrivals}
 use Rattle.pot_group.specs.Calls.{Grows}
 use Rattle.pot_group.specs.Group.{GroupView}
-use Rattle.pot_execution.specs.Execution.{FailedInOpening, GoneOrFailed, IsUnopened, had}
+use Rattle.pot_execution.specs.Execution.{FailedInOpening, GoneOrFailed, IsUnopened}
 use Rattle.pot_execution.proofs.Came.{among}
 
 -- each archive was coherent when it was taken

@@ -57,12 +57,12 @@ pub all_more : {X : Type 0} (P : X → Type 0) (xs : List X) (n i : ℕ) (x : X)
     → (y : X) → Contains (take n xs) y → P y
 all_more P xs n i x e lt item all one y h = elim (take_one xs n i y e h) [
   | inl k ↦ all y k
-  | inr same ↦ subst P (same_Some (sym (item_is xs i x lt item) ∙ same)) one
+  | inr same ↦ subst P (same_Some x y (sym (item_is xs i x lt item) ∙ same)) one
 ]
 
 take_next : {X : Type 0} (xs : List X) (i : ℕ) (x : X) → slice_get xs i ≡ Some x → take (suc i) xs ≡ take i xs ++ x ∷ []
 take_next [] i x e = absurd (cc)
-take_next (y ∷ xs) zero x e = ap (λ z. z ∷ []) (same_Some e)
+take_next (y ∷ xs) zero x e = ap (λ z. z ∷ []) (same_Some y x e)
 take_next (y ∷ xs) (suc i) x e = ap (λ l. y ∷ l) (take_next xs i x e)
 
 -- what is told of the first elements in order, once it is told of the next
