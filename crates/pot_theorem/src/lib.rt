@@ -10,9 +10,11 @@
 //!    left, with what the room means then (`runs_reach`).
 //! 3. Hence each stripe is a codeword, each block put is in it at its place, and what a coalition
 //!    of columns sees is what other bytes would have given as well (`the_hard_property`).
+//! 4. What is asked of a chain can be had (`quiet_session`).
 #![tactic(auto)]
 
 ghost use Rattle.pot_theorem.specs.Hard.{TheHardProperty};
+ghost use Rattle.pot_theorem.specs.Quiet.{QuietSession};
 ghost use Rattle.pot_theorem.specs.Sessions.{RunsClose};
 ghost use Rattle.pot_theorem.specs.Worlds.{RunsReach};
 
@@ -29,4 +31,9 @@ pub fn runs_reach()
 /// Stripes, places and the veil of what runs leave. It does nothing.
 pub fn the_hard_property()
     ensures { TheHardProperty }
+{}
+
+/// A session in which nothing was done meets what is asked. It does nothing.
+pub fn quiet_session()
+    ensures { QuietSession }
 {}
