@@ -37,13 +37,13 @@ all_empty rack n (suc more) [] new = new
 all_empty rack n (suc more) (p ∷ ps) new = (new_empty rack n p new.0, all_empty rack (suc n) more ps new.1)
 
 -- the archives that have a use after groups that went well
-all_used : (used : ℕ → Bool) (ps : List Past) → AllWentWell used ps → used_by_each (all_ran ps) used ≡ used_since ps used
+pub all_used : (used : ℕ → Bool) (ps : List Past) → AllWentWell used ps → used_by_each (all_ran ps) used ≡ used_since ps used
 all_used used [] well = refl
 all_used used (p ∷ ps) well =
     let one = (well_by_log used p well.0).1 in
     ap (used_by_each (all_ran ps)) one ∙ all_used (with_uses used (arrivals p.view.log)) ps well.1
 
-all_well : (used : ℕ → Bool) (ps : List Past) → AllWentWell used ps → EachRan used (all_ran ps)
+pub all_well : (used : ℕ → Bool) (ps : List Past) → AllWentWell used ps → EachRan used (all_ran ps)
 all_well used [] well = tt
 all_well used (p ∷ ps) well =
     let one = well_by_log used p well.0 in

@@ -12,32 +12,32 @@ use Rattle.pot_refinement.specs.Refinement.{Simulates, used_after, used_by_all, 
 use Rattle.pot_refinement.proofs.Simulating.{follows_all}
 
 -- acts of groups, by number, as moves
-makes : List (ℕ × Act) → List Move
+unfoldable pub makes : List (ℕ × Act) → List Move
 makes ms = map (λ x. Makes x.0 x.1) ms
 
-first : List Act → List (ℕ × Act)
+pub first : List Act → List (ℕ × Act)
 first acts = map (λ a. (0, a)) acts
 
-next : List (ℕ × Act) → List (ℕ × Act)
+pub next : List (ℕ × Act) → List (ℕ × Act)
 next ms = map (λ x. (suc x.0, x.1)) ms
 
-abbrev site : (ℕ → Bool) → List WorldGroup → Site
+abbrev pub site : (ℕ → Bool) → List WorldGroup → Site
 site used gs = record { used = used; groups = gs }
 
 -- moves behind moves
-reach_join : (ms ns : List (ℕ × Act)) (x y z : Site) → Reaches x (makes ms) y → Reaches y (makes ns) z → Reaches x (makes (ms ++ ns)) z
+pub reach_join : (ms ns : List (ℕ × Act)) (x y z : Site) → Reaches x (makes ms) y → Reaches y (makes ns) z → Reaches x (makes (ms ++ ns)) z
 unfolding Reaches makes
 reach_join [] ns x y z same on = subst (λ s. Reaches s (makes ns) z) same on
 reach_join (m ∷ ms) ns x y z go on = (go.0, reach_join ms ns (moved (Makes m.0 m.1) x) y z go.1 on)
 
 -- the acts of the first group
-reach_first : (used after : ℕ → Bool) (g h : WorldGroup) (gs : List WorldGroup) (acts : List Act) → Acts used g acts after h → Reaches (site used (g ∷ gs)) (makes (first acts)) (site after (h ∷ gs))
+pub reach_first : (used after : ℕ → Bool) (g h : WorldGroup) (gs : List WorldGroup) (acts : List Act) → Acts used g acts after h → Reaches (site used (g ∷ gs)) (makes (first acts)) (site after (h ∷ gs))
 unfolding Reaches makes first IsAllowedAt at_group
 reach_first used after g h gs [] go = ap (λ u. site u (h ∷ gs)) go.0 ∙ ap (λ x. site used (x ∷ gs)) go.1
 reach_first used after g h gs (a ∷ acts) go = (go.0, reach_first (used_by a used) after (act a g) h gs acts go.1)
 
 -- those of the groups behind it
-reach_next : (used after : ℕ → Bool) (g : WorldGroup) (gs hs : List WorldGroup) (ms : List (ℕ × Act)) → Reaches (site used gs) (makes ms) (site after hs)
+pub reach_next : (used after : ℕ → Bool) (g : WorldGroup) (gs hs : List WorldGroup) (ms : List (ℕ × Act)) → Reaches (site used gs) (makes ms) (site after hs)
     → Reaches (site used (g ∷ gs)) (makes (next ms)) (site after (g ∷ hs))
 unfolding Reaches makes next IsAllowedAt at_group
 reach_next used after g gs hs [] same = ap (λ (s : Site). site s.used (g ∷ s.groups)) same
@@ -63,11 +63,11 @@ follows_after used (call.MoveBegin job c to held heard) g s f = follows_more use
 follows_after used (call.MoveOne job c answer) g s f = f
 follows_after used (call.Swap job c to held heard) g s f = follows_more used to g s f
 
-follows_calls : (calls : List Call) (used : ℕ → Bool) (g : WorldGroup) (s : GroupState) → Simulates used g s → Simulates (used_by_all calls used) g s
+pub follows_calls : (calls : List Call) (used : ℕ → Bool) (g : WorldGroup) (s : GroupState) → Simulates used g s → Simulates (used_by_all calls used) g s
 follows_calls [] used g s f = f
 follows_calls (c ∷ calls) used g s f = follows_calls calls (used_after used c) g s (follows_after used c g s f)
 
-follows_each : (rs : List Ran) (used : ℕ → Bool) (g : WorldGroup) (s : GroupState) → Simulates used g s → Simulates (used_by_each rs used) g s
+pub follows_each : (rs : List Ran) (used : ℕ → Bool) (g : WorldGroup) (s : GroupState) → Simulates used g s → Simulates (used_by_each rs used) g s
 follows_each [] used g s f = f
 follows_each (r ∷ rs) used g s f = follows_each rs (used_by_all r.calls used) g s (follows_calls r.calls used g s f)
 

@@ -1,0 +1,4 @@
+pub mod Sessions
+pub mod Worlds
+pub mod Hard
+pub mod Quiet

@@ -1,0 +1,151 @@
+-- Sessions of runs that closed, one after another, and what is asked of them.
+use Rattle.std.specs.Prelude.{◌≡◌, ◌⊎◌, ◌≤◌, ◌<◌, ◌+◌, ◌*◌, ◌^◌, ◌++◌, ℕ, IsTrue, All, Contains}
+use Rattle.std.specs.Prelude.{List, [], ◌∷◌, Some, flat_map, length, map}
+use Rattle.std.specs.List.{range_with_len}
+use Rattle.pot_bytes.specs.declared.rack.Rack.{Rack}
+use Rattle.pot_bytes.specs.Rack.{log_bound}
+use Rattle.pot_outside.specs.Accounts.{Transition, held_in}
+use Rattle.pot_outside.specs.Archives.{Meaning}
+use Rattle.pot_outside.specs.Counts.{Rose}
+use Rattle.pot_outside.specs.Rooms.{RoomState, MeansStay}
+use Rattle.pot_machine.specs.declared.entry.Entry.{Entry}
+use Rattle.pot_machine.specs.Making.{empty_table}
+use Rattle.pot_machine.specs.Table.{archives_in}
+use Rattle.pot_script.specs.declared.grouping.Step.{Step}
+use Rattle.pot_image.specs.declared.image.Image.{Image}
+use Rattle.pot_image.specs.Images.{Contents, contents}
+use Rattle.pot_image.specs.Rules.{FitsTogether}
+use Rattle.pot_replies.specs.Sections.{Section}
+use Rattle.pot_shared.specs.Hands.{AreApart}
+use Rattle.pot_refinement.specs.Refinement.{IsEmpty, is_clean}
+use Rattle.pot_session.specs.declared.ending.status.Status.{Status}
+use Rattle.pot_session.specs.Desks.{begun}
+use Rattle.pot_session.specs.Giving.{IsUnlent, IsUnopened}
+use Rattle.pot_session.specs.Losses.{AreBack}
+use Rattle.pot_session.specs.Runs.{Holds, IsOf, Seen}
+use Rattle.pot_session.specs.Serving.{IsClosed, Leaves, came_by}
+use Rattle.pot_promises.specs.Chains.{Begins}
+
+-- A SESSION THAT CLOSED
+
+-- What the contract of a run says of one session that closed, over archives that tell what they
+-- hold: the images with which it began and which it left, what the room meant before and after,
+-- the archives that the room did not take back, and what the logs gained.
+pub record ClosedSession : Type 0 where
+  pub first : Contents
+  pub last : Contents
+  pub room : Transition RoomState
+  pub missing : List ℕ
+  pub story : Section
+  pub fits : FitsTogether first
+  pub told : IsTrue room.tells
+  pub leaves : Leaves room missing first last story
+
+-- a run whose session closed
+pub record RanToClose (seed : List ℕ) (seen : Seen) (answer : Status) : Type 0 where
+  pub read : Image
+  pub steps : List Step
+  pub of : IsOf seen.source (held_in seen.desk) read steps
+  pub fits : FitsTogether (begun (contents read))
+  pub closed : IsClosed seed (begun (contents read)) steps seen.room seen.sink seen.desk answer
+
+-- its session
+abbrev pub session_of : {seed : List ℕ} {seen : Seen} {answer : Status}
+    → RanToClose seed seen answer → IsTrue seen.room.tells → ClosedSession
+session_of {seed} {seen} {answer} r told =
+    record {
+      first = begun (contents r.read);
+      last = r.closed.last;
+      room = seen.room;
+      missing = r.closed.missing;
+      story = r.closed.story;
+      fits = r.fits;
+      told = told;
+      leaves = r.closed.leaves;
+    }
+
+-- No session closed. Each number means what it meant, or each whose archive came back does, or does
+-- but for losses that its archive counted.
+abbrev pub NoneClosed : Transition RoomState → Type 0
+NoneClosed room = MeansStay room ⊎ (IsUnlent room ⊎ IsUnopened room)
+
+-- A run of the program has one session that closed, or none.
+abbrev pub RunsClose : Type 0
+RunsClose =
+    (seed : List ℕ) (seen : Seen) (answer : Status) → Holds seed seen answer
+    → RanToClose seed seen answer ⊎ NoneClosed seen.room
+
+-- the archives of the tables with which it began
+abbrev pub first_archives : ClosedSession → List ℕ
+first_archives c = flat_map archives_in c.first.tables
+
+-- those that came by its logs
+abbrev pub new_archives : ClosedSession → List ℕ
+new_archives c = came_by c.last.group_logs
+
+-- how many archives a rack begins with, which have the numbers from 0
+abbrev pub many_archives : Rack → ℕ
+many_archives rack = rack.groups * (rack.columns + rack.parity)
+
+-- WHAT IS ASKED OF A SESSION
+
+-- Nothing disturbed a session. `earlier` has the archives that came in the sessions before.
+pub record IsUndisturbed (earlier : List ℕ) (c : ClosedSession) : Type 0 where
+  -- The room took each of its archives back. Of one that is missing no clause says what it holds.
+  pub back : AreBack c.missing c.first.tables c.last.group_logs
+  -- No count of faults of an archive rose with which it began. A read that fails in an opening
+  -- makes a slot Gone whose block is still there.
+  pub steady : (n : ℕ) → Contains (first_archives c) n
+      → Rose (c.room.before.means n).faults (c.room.after.means n).faults → ⊥
+  -- No log names a fault, or a parity block that was not kept. A write that failed is no step of a
+  -- world.
+  pub clean : All (λ log. All (λ e. IsTrue (is_clean e)) log) c.last.group_logs
+  -- Each log has room. A full one ends a call between its entries.
+  pub has_room : All (λ (log : List Entry). length log < log_bound) c.last.group_logs
+  -- Each archive that came was empty. A world begins to use an archive with nothing in it.
+  pub empty : (n : ℕ) → Contains (new_archives c) n → IsEmpty (c.room.before.means n)
+  -- It was none of those that the rack began with, and came in no session before. The program sees
+  -- the tables and logs of its own session alone.
+  pub unused : (n : ℕ) → Contains (new_archives c) n
+      → (many_archives c.first.rack ≤ n) × (Contains earlier n → ⊥)
+  -- No archive came twice. The room lends each archive once, of which no clause of a run speaks.
+  pub apart : AreApart (new_archives c)
+
+-- SESSIONS IN A ROW
+
+-- A first session: it began with the empty tables of its rack, over archives that were empty.
+pub record IsFirst (c : ClosedSession) : Type 0 where
+  pub tables : c.first.tables
+      ≡ map (empty_table c.first.rack) (range_with_len 0 c.first.rack.groups)
+  pub empty : (n : ℕ) → Contains (first_archives c) n → IsEmpty (c.room.before.means n)
+
+-- an archive that meant this may have lost blocks, and did nothing else
+pub record HasOnlyLost (m n : Meaning) : Type 0 where
+  pub held : (slot : ℕ) (block : List ℕ) → slot < 2 ^ 32 → n.held slot ≡ Some block
+      → m.held slot ≡ Some block
+  pub heard : n.heard ≡ m.heard
+
+-- A next session: it began with what the one before left, over archives that had only lost blocks
+-- since.
+pub record Succeeds (c d : ClosedSession) : Type 0 where
+  pub begins : Begins c.last d.first
+  pub kept : (n : ℕ) → Contains (first_archives d) n
+      → HasOnlyLost (c.room.after.means n) (d.room.before.means n)
+
+-- session after session
+abbrev pub AllSucceed : List ℕ → ClosedSession → List ClosedSession → Type 0
+AllSucceed earlier c [] = Unit {0}
+AllSucceed earlier c (d ∷ more) =
+    Succeeds c d × IsUndisturbed (earlier ++ new_archives c) d
+    × AllSucceed (earlier ++ new_archives c) d more
+
+-- All sessions of a rack from the first one on, each over what the one before left, and none of
+-- them disturbed.
+pub record AreInARow (c : ClosedSession) (more : List ClosedSession) : Type 0 where
+  pub is_first : IsFirst c
+  pub undisturbed : IsUndisturbed [] c
+  pub go_on : AllSucceed [] c more
+
+abbrev pub last_session : ClosedSession → List ClosedSession → ClosedSession
+last_session c [] = c
+last_session c (d ∷ more) = last_session d more
