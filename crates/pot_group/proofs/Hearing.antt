@@ -1,6 +1,6 @@
 -- What a group's archives may have heard, over losses and folds, over an archive that comes and
 -- over the entries of its calls.
-use Rattle.std.proofs.Common.{◌≡◌, ◌≢◌, ◌⊎◌, inl, inr, ℕ, suc, ◌+◌, ◌≤◌, ◌++◌, length, length-append, arith, List, [], ◌∷◌, Some, Bool, true, false, IsSomeAnd, refl, sym, ap, ap₂, ◌∙◌, subst, map, All}
+use Rattle.std.proofs.Common.{◌≡◌, ◌≢◌, ◌⊎◌, inl, inr, ℕ, suc, ◌+◌, ◌≤◌, ◌++◌, length, length-append, arith, List, [], ◌∷◌, Some, IsSomeAnd, refl, sym, ap, ap₂, ◌∙◌, subst, map, All}
 use Rattle.std.specs.Prelude.{Contains, Result, Ok, Err}
 use Rattle.std.proofs.lemmas.Bool.{cases_eq}
 use Rattle.std.proofs.lemmas.List.Elements.{Contains-push_cases, All-head, All-tail}

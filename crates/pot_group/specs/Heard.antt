@@ -1,7 +1,6 @@
 -- What the archives of a group may have heard: the sums of the relays that stood, as the log has
 -- them.
 use Rattle.std.specs.Prelude.{◌≡◌, ◌⊎◌, ℕ, suc, IsSomeAnd, List, [], ◌∷◌, ◌++◌, Some, Contains}
-use Rattle.std.specs.Prelude.{length}
 use Rattle.pot_machine.specs.declared.entry.Entry.{Entry}
 use Rattle.pot_machine.specs.declared.entry.Entry.TheVariants as entry
 use Rattle.pot_machine.specs.Table.{Table, slot_at, serving_at, next_column}

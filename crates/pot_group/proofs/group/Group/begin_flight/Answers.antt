@@ -1,4 +1,4 @@
-use Rattle.std.proofs.Common.{◌≡◌, ◌<◌, ◌≤◌, ◌++◌, ◌∷◌, [], IsTrue, List, ap, length, subst, sym, ◌∙◌, arith, refl, map}
+use Rattle.std.proofs.Common.{◌≡◌, ◌<◌, ◌≤◌, ◌++◌, ◌∷◌, [], IsTrue, ap, length, subst, sym, ◌∙◌, arith, refl, map}
 use Rattle.std.proofs.lemmas.List.{length-map, map-append}
 use Rattle.pot_machine.specs.declared.entry.Entry.TheVariants.{Begin}
 use Rattle.pot_machine.specs.Machine.{Legal}

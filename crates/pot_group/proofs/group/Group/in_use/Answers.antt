@@ -1,4 +1,4 @@
-use Rattle.std.proofs.Common.{rules, ◌≡◌, ◌⊎◌, inr, Some, None, refl, subst}
+use Rattle.std.proofs.Common.{rules, ◌≡◌, ◌⊎◌, inr, None, refl, subst}
 use Rattle.std.specs.Prelude.{Contains, IsSome}
 use Rattle.pot_machine.specs.Table.{column_at}
 use Rattle.pot_shelves.specs.Shelves.{numbers_of}
