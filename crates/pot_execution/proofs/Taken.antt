@@ -54,4 +54,4 @@ pub finds_stay : (old new : GroupView) (entries : List Entry) (start opened : Gr
 finds_stay old new entries start opened opening arrived grows unopened finds =
     subst (Finds new.shelves start opened opening) (sym grows.first)
     (λ k c lk lc gone sound. marks_stay old new entries arrived grows (serving_at old.first k c)
-        (served_first old.first old.shelves.taken start unopened (serving_at old.first k c) k sound.0 (opening.loses (serving_at old.first k c) k sound.0 sound.1.held)) (finds k c lk lc gone sound))
+    (served_first old.first old.shelves.taken start unopened (serving_at old.first k c) k sound.0 (opening.loses (serving_at old.first k c) k sound.0 sound.1.held)) (finds k c lk lc gone sound))

@@ -317,7 +317,7 @@ opens_well p steady =
     let e = p.execution in
     subst (GoneBy e.start e.opened e.opening) (sym e.unopened.table)
     (λ s c ls lc gone sound. steady (serving_at p.view.first s c)
-        (served_first p.view.first p.view.shelves.taken e.start e.unopened (serving_at p.view.first s c) s sound.0 (e.opening.loses (serving_at p.view.first s c) s sound.0 sound.1.held)) (e.finds s c ls lc gone sound))
+    (served_first p.view.first p.view.shelves.taken e.start e.unopened (serving_at p.view.first s c) s sound.0 (e.opening.loses (serving_at p.view.first s c) s sound.0 sound.1.held)) (e.finds s c ls lc gone sound))
 
 pub well_by_log : WellByLog
 well_by_log used p well =
