@@ -1,17 +1,14 @@
 -- A first session of a small rack in which nothing was done: what is asked of a first session can be
 -- had.
-use Rattle.std.proofs.Common.{◌≡◌, ◌≢◌, ◌⊎◌, inl, inr, ℕ, zero, suc, ◌<◌, ◌≤◌, ◌+◌, List, [], ◌∷◌, ◌++◌, Option, Some, None, Bool, true, false, IsTrue, refl, sym, ap, ◌∙◌, subst, arith, append-nil, length}
-use Rattle.std.specs.Prelude.{All, Contains, nat_eq, slice_get}
-use Rattle.std.specs.List.{flat_map}
+use Rattle.std.proofs.Common.{◌≡◌, inl, inr, ℕ, zero, suc, ◌<◌, ◌≤◌, List, [], ◌∷◌, ◌++◌, Some, None, Bool, true, false, IsTrue, refl, sym, subst, arith, length}
+use Rattle.std.specs.Prelude.{All, Contains, slice_get}
 use Rattle.std.proofs.lemmas.List.Elements.{All-nil, All-cons}
 use Rattle.std.proofs.lemmas.Map.Made.{IsDistinct-from_count}
 use Rattle.std.proofs.lemmas.Bool.Decides.{nat_tests}
 use Rattle.std.proofs.lemmas.Option.{same_Some}
-use Rattle.pot_bytes.specs.declared.rack.Rack.{Rack}
 use Rattle.pot_bytes.specs.Rack.{IsRack}
 use Rattle.pot_bytes.proofs.Elements.{none_contained}
 use Rattle.pot_outside.specs.Accounts.{Transition}
-use Rattle.pot_outside.specs.Archives.{Meaning}
 use Rattle.pot_outside.specs.Rooms.{RoomState}
 use Rattle.pot_machine.specs.declared.entry.Entry.{Entry}
 use Rattle.pot_machine.specs.declared.slot.SlotState.{SlotState}
@@ -20,27 +17,24 @@ use Rattle.pot_machine.specs.Column.{names}
 use Rattle.pot_machine.specs.Slot.{is_live}
 use Rattle.pot_machine.specs.Making.{empty_table}
 use Rattle.pot_machine.specs.Rules.{IsTable}
-use Rattle.pot_machine.specs.Table.{Table, archives_in, column_at, serving_at, slot_at, width}
+use Rattle.pot_machine.specs.Table.{Table, archives_in, column_at, slot_at, width}
 use Rattle.pot_machine.proofs.Empty.{empty_is_table, empty_void}
-use Rattle.pot_steps.specs.Holdings.{Holdings, stripe_of}
-use Rattle.pot_steps.specs.Stripe.{Sound}
 use Rattle.pot_steps.specs.Flights.{Stands}
 use Rattle.pot_steps.specs.GroupStep.{GroupState, StartStep, entries_where, opening}
 use Rattle.pot_steps.proofs.Opening.{start_makes}
 use Rattle.pot_shelves.specs.Shelves.{Shelves, nothing}
 use Rattle.pot_group.specs.Causes.{archives_of}
-use Rattle.pot_group.specs.Group.{GroupView, IsSettled, state_of}
+use Rattle.pot_group.specs.Group.{GroupView, IsSettled}
 use Rattle.pot_image.specs.Images.{Contents}
 use Rattle.pot_image.specs.Rules.{FitsTable, FitsTogether}
 use Rattle.pot_replies.specs.Sections.{Section}
-use Rattle.pot_shared.specs.Leaving.{LeavesGroup, LeaveGroups}
-use Rattle.pot_shared.proofs.GroupLemmas.{serves_there}
+use Rattle.pot_shared.specs.Leaving.{LeavesGroup}
 use Rattle.pot_execution.specs.Execution.{HasExecution}
 use Rattle.pot_session.specs.Desks.{begun}
 use Rattle.pot_session.specs.Making.{empty_contents}
 use Rattle.pot_session.specs.Serving.{IsInRoom, Leaves}
 use Rattle.pot_world.specs.Kept.{IsKept}
-use Rattle.pot_world.specs.Reached.{AllGood, EachGroup, Reaches, first_group, first_groups, first_site}
+use Rattle.pot_world.specs.Reached.{EachGroup, Reaches, first_group, first_groups, first_site}
 use Rattle.pot_world.proofs.Reaching.{reached_keeps}
 use Rattle.std.specs.Cmp.{nat_eq_equiv}
 use Rattle.std.specs.Prelude.{◌==◌}
