@@ -49,7 +49,7 @@ are_veils random = record { count = refl; each = each }
     each : (n i : ℕ) (s : Split) (v : Veil) → slice_get (split ∷ []) n ≡ Some s → i < 1 → slice_get (the_veil ∷ []) (n * 1 + i) ≡ Some v → IsVeil rack spots s n i v
     each zero zero s v e l f = subst (λ (s : Split). IsVeil rack spots s 0 0 v) (same_Some _ _ e) (subst (λ (v : Veil). IsVeil rack spots split 0 0 v) (same_Some _ _ f) is_veil)
     each zero (suc i) s v e l f = absurd (omega (arith, l))
-    each (suc n) i s v e l f = absurd (none-some e)
+    each (suc n) i s v e l f = absurd (none-some s e)
 
 are_hidden : AreHidden (the_veil ∷ [])
 are_hidden = All-cons (λ (v : Veil). v.have < v.need) the_veil [] one (All-nil (λ (v : Veil). v.have < v.need))
@@ -62,18 +62,21 @@ other_bytes (suc k) = omega arith
 
 put_ends : (u : UnderWay) (b : List ℕ) (rest : List Step) (w : World) → (w.actors 1).under_way ≡ Some u → next_block u ≡ Some b → u.renews ≡ false → AllEndWell name rest (put_block 1 u (Some b) w) → AllEndWell name (step.PutNext 1 ∷ rest) w
 unfolding AllEndWell
-put_ends u b rest w e f new r =
-    (subst (λ (o : Option UnderWay). IsSomeAnd o (λ u. u.name ≡ name → u.renews ≡ true → will_publish 1 rest ≡ true)) (sym e) (λ n renews. absurd (no (sym new ∙ renews))),
-    subst (λ (x : World). AllEndWell name rest x) (sym (ap (λ (o : Option UnderWay). put_step 1 o w) e ∙ ap (λ (o : Option (List ℕ)). put_block 1 u o w) f)) r)
+put_ends u b rest w e f new r = (
+  subst (λ (o : Option UnderWay). IsSomeAnd o (λ u. u.name ≡ name → u.renews ≡ true → will_publish 1 rest ≡ true)) (sym e) (λ n renews. absurd (no (sym new ∙ renews))),
+  subst (λ (x : World). AllEndWell name rest x) (sym (ap (λ (o : Option UnderWay). put_step 1 o w) e ∙ ap (λ (o : Option (List ℕ)). put_block 1 u o w) f)) r,
+)
   where
     no : false ≡ true → ⊥
     no e = cc
 
 ends_well : PlaceLaws → (random : List ℕ) → AllEndWell name (stores random) (first_world rack)
 unfolding AllEndWell put_within least count at_group first_groups
-ends_well laws random =
-    (tt, put_ends (under_way random) (block random 0) (step.PutNext 1 ∷ step.Publish 1 ∷ []) (begun_world random) (first_way random) (block_0 laws random) refl
-    (put_ends (half_way random) (block random 1) (step.Publish 1 ∷ []) (half_world random) (second_way random) (block_1 laws random) refl (tt, tt)))
+ends_well laws random = (
+  tt,
+  put_ends (under_way random) (block random 0) (step.PutNext 1 ∷ step.Publish 1 ∷ []) (begun_world random) (first_way random) (block_0 laws random) refl
+      (put_ends (half_way random) (block random 1) (step.Publish 1 ∷ []) (half_world random) (second_way random) (block_1 laws random) refl (tt, tt)),
+)
 
 store_run : PlaceLaws → (random : List ℕ) → IsStore geometry file random → Runs (stores random) (first_world rack) (stored_world random)
 unfolding Runs

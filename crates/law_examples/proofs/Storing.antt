@@ -50,9 +50,10 @@ block_1 laws random = laws.each geometry file random 0 1 0 one (omega arith) one
 
 put_goes : (u : UnderWay) (b : List ℕ) (rest : List Step) (w v : World) → (w.actors 1).under_way ≡ Some u → next_block u ≡ Some b → length u.places < length (blocks_of u) → Runs rest (put_block 1 u (Some b) w) v → Runs (step.PutNext 1 ∷ rest) w v
 unfolding Runs
-put_goes u b rest w v e f lt r =
-    (subst (λ (o : Option UnderWay). IsSomeAnd o (λ u. length u.places < length (blocks_of u))) (sym e) lt,
-    subst (λ (x : World). Runs rest x v) (sym (ap (λ (o : Option UnderWay). put_step 1 o w) e ∙ ap (λ (o : Option (List ℕ)). put_block 1 u o w) f)) r)
+put_goes u b rest w v e f lt r = (
+  subst (λ (o : Option UnderWay). IsSomeAnd o (λ u. length u.places < length (blocks_of u))) (sym e) lt,
+  subst (λ (x : World). Runs rest x v) (sym (ap (λ (o : Option UnderWay). put_step 1 o w) e ∙ ap (λ (o : Option (List ℕ)). put_block 1 u o w) f)) r,
+)
 
 abbrev pub under_way : List ℕ → UnderWay
 under_way random = store_begun name file geometry random
@@ -85,10 +86,12 @@ third_way random = refl
 
 pub store_goes : PlaceLaws → (random : List ℕ) → IsStore geometry file random → (rest : List Step) (v : World) → Runs rest (stored_world random) v → Runs (stores random ++ rest) (first_world rack) v
 unfolding Runs put_within least count at_group first_groups
-store_goes laws random is rest v r =
-    ((refl, is), put_goes (under_way random) (block random 0) (step.PutNext 1 ∷ step.Publish 1 ∷ rest) (begun_world random) v (first_way random) (block_0 laws random) (subst (λ n. 0 < n) (sym (two_blocks laws random)) two)
-    (put_goes (half_way random) (block random 1) (step.Publish 1 ∷ rest) (half_world random) v (second_way random) (block_1 laws random) (subst (λ n. 1 < n) (sym (two_blocks laws random)) (omega arith))
-    ((sym (two_blocks laws random), λ e. absurd (no_renewal e)), r)))
+store_goes laws random is rest v r = (
+  (refl, is),
+  put_goes (under_way random) (block random 0) (step.PutNext 1 ∷ step.Publish 1 ∷ rest) (begun_world random) v (first_way random) (block_0 laws random) (subst (λ n. 0 < n) (sym (two_blocks laws random)) two)
+      (put_goes (half_way random) (block random 1) (step.Publish 1 ∷ rest) (half_world random) v (second_way random) (block_1 laws random) (subst (λ n. 1 < n) (sym (two_blocks laws random)) (omega arith))
+      ((sym (two_blocks laws random), λ e. absurd (no_renewal e)), r)),
+)
   where
     no_renewal : false ≡ true → ⊥
     no_renewal e = cc
@@ -108,12 +111,15 @@ written laws law random is =
     let run = lost_run laws random is in
     let x = law rack (loses random) (lost_world random) is_rack run (record_made (whole random)) (0, one, refl) in
     let a = x.splits.0.written 0 (place_in 0) refl in
-    let b = x.splits.0.written 1 (place_in 1) refl in
-    (lost_world random, run, record {
-      first = a.2.written ∙ same_Some _ _ (sym a.1 ∙ block_0 laws random);
-      second = b.2.written ∙ same_Some _ _ (sym b.1 ∙ block_1 laws random);
-      used = a.2.used;
-    })
+    let b = x.splits.0.written 1 (place_in 1) refl in (
+      lost_world random,
+      run,
+      record {
+        first = a.2.written ∙ same_Some _ _ (sym a.1 ∙ block_0 laws random);
+        second = b.2.written ∙ same_Some _ _ (sym b.1 ∙ block_1 laws random);
+        used = a.2.used;
+      },
+    )
 
 -- THE LOST BLOCK
 
@@ -238,5 +244,5 @@ gathered_is laws writes gathers one_block random is =
     let x = writes rack (fetches random) (fetched_world random) is_rack run (record_made (whole random)) (0, one, refl) in
     let a = x.splits.0.written 0 (place_in 0) refl in
     let same : (b : List ℕ) → Contains ((fetched_world random).actors 2).gathered (record { place = place_in 0; block = b }) → b ≡ block random 0 = λ b h.
-        one_block (fetched_world random).site.groups 0 0 0 b a.0 (gathers rack (fetches random) (fetched_world random) is_rack run 2 (record { place = place_in 0; block = b }) h) a.2 ∙ same_Some _ _ (sym a.1 ∙ block_0 laws random) in
+    one_block (fetched_world random).site.groups 0 0 0 b a.0 (gathers rack (fetches random) (fetched_world random) is_rack run 2 (record { place = place_in 0; block = b }) h) a.2 ∙ same_Some _ _ (sym a.1 ∙ block_0 laws random) in
     (fetched_world random, run, same)
