@@ -1,0 +1,7 @@
+use Rattle.std.proofs.Common.{◌∙◌, sym}
+use Rattle.pot_group.specs.Group.{view_of}
+use Rattle.pot_shared.proofs.MemberLemmas.{all_long}
+use Rattle.pot_shared.proofs.member.MemberKept.length.Goals as goal
+
+pub returns : goal.returns
+returns g c = c.logged.ensures.value ∙ sym (all_long _ _ _)
