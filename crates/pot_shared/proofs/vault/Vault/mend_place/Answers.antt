@@ -14,12 +14,18 @@ steps-preserved-in-Began g c = (
       c.draw_blind-blind-in-Began.ensures.block c.draw_blind-blind-in-Began.ensures.stream,
 )
 
+pub steps-smaller-in-Began : goal.steps-smaller-in-Began
+steps-smaller-in-Began g c = falls _ _ _ _ mend.Began _ _ _ c.steps.invariant.0.of c.requires.place.0 (tt) c.in-Began.ensures.call
+
 pub steps-preserved-in-Extends : goal.steps-preserved-in-Extends
 steps-preserved-in-Extends g c = (
   c.in-Extends.ensures.ready,
   c.in-Extends.ensures.index ∙ c.steps.invariant.1,
   mending_went _ _ _ _ _ _ _ _ _ _ _ _ c.requires.ready.of c.steps.invariant.0.of c.steps.invariant.0.idle c.requires.place.0 c.steps.invariant.2 c.in-Extends.ensures.call,
 )
+
+pub steps-smaller-in-Extends : goal.steps-smaller-in-Extends
+steps-smaller-in-Extends g c = falls _ _ _ _ mend.Extends _ _ _ c.steps.invariant.0.of c.requires.place.0 (tt) c.in-Extends.ensures.call
 
 pub overflow_add-mended : goal.overflow_add-mended
 overflow_add-mended g c =
@@ -35,6 +41,9 @@ steps-preserved-in-Mended g c = (
   c.in-Mended.ensures.index ∙ c.steps.invariant.1,
   mending_mended _ _ _ _ _ _ _ _ _ _ _ _ c.requires.ready.of c.steps.invariant.0.of c.steps.invariant.0.idle c.requires.place.0 c.steps.invariant.2 _ refl c.in-Mended.ensures.call,
 )
+
+pub steps-smaller-in-Mended : goal.steps-smaller-in-Mended
+steps-smaller-in-Mended g c = falls _ _ _ _ mend.Mended _ _ _ c.steps.invariant.0.of c.requires.place.0 (tt) c.in-Mended.ensures.call
 
 pub overflow_add-passed : goal.overflow_add-passed
 overflow_add-passed g c =
