@@ -1,4 +1,4 @@
-use Rattle.std.proofs.Common.{◌≡◌, ◌*◌, IsTrue, vec_len}
+use Rattle.std.proofs.Common.{◌≡◌, ◌*◌, vec_len}
 use Rattle.pot_shared.specs.Ready.{AreReady}
 use Rattle.pot_shared.specs.Blinds.{Blinds}
 use Rattle.pot_store.proofs.PieceLemmas.{PieceSofar}
