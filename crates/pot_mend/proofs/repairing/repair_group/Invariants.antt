@@ -1,4 +1,4 @@
-use Rattle.std.proofs.Common.{◌≡◌, ◌+◌, ◌-◌, ◌*◌, IsTrue}
+use Rattle.std.proofs.Common.{◌≡◌, ◌+◌, ◌-◌, ◌*◌}
 use Rattle.pot_shared.specs.Ready.{AreReady}
 use Rattle.pot_shared.specs.Blinds.{Blinds}
 use Rattle.pot_mend.proofs.RowLemmas.{Repairing}
