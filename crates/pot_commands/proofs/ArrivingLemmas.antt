@@ -37,11 +37,11 @@ use Rattle.pot_replies.specs.Sections.{Section, mine, IsSilent, IsOfJobs}
 use Rattle.pot_replies.specs.Moves.{IsUsed}
 use Rattle.pot_shared.specs.declared.member.GroupOrigin.{GroupOrigin}
 use Rattle.pot_shared.specs.declared.member.Logged.{Logged}
-use Rattle.pot_shared.specs.Calls.{CallAt}
+use Rattle.pot_shared.specs.Calls.{CallAt, marked}
 use Rattle.pot_shared.specs.Catalogs.{IndexPasses, IsIndexReady}
 use Rattle.pot_shared.proofs.Takings.{taking_is, taking_same}
 use Rattle.pot_shared.specs.Members.{all_logged, entries_of, logged_at, taking_at, origin_of}
-use Rattle.pot_shared.proofs.MemberLemmas.{marks_by, entries_all, entries_append}
+use Rattle.pot_shared.proofs.MemberLemmas.{entries_all, entries_append, entries_kept, marks_by}
 use Rattle.pot_group.specs.Calls.{ComesBy}
 use Rattle.pot_shared.specs.Ready.{AreReady, GroupPass, GroupPasses}
 use Rattle.pot_shared.specs.Works.{Known, known, of_job, gained, JobWroteOnly, JobOnlyWriter, IsSettingOf, section_of}
@@ -283,24 +283,24 @@ module _ {rack : Rack} {names turn : List TurnName} (job : ℕ) {row0 row1 : Gro
         now_pass : view_at row2 group ≡ call.pass
         now_pass = ap (λ r. view_at r group) call.is ∙ at_set row1 group call.pass in_row
 
-        added_is : added (view_at row1 group) (view_at row2 group) ≡ call.turn.others ++ all_logged call.turn.new.shelves call.turn.entries
-        added_is = ap (λ v. added (view_at row1 group) v) now_pass ∙ turn_added call.turn.others (all_logged call.turn.new.shelves call.turn.entries) (view_at row1 group) call.pass call.turn.turn
+        added_is : added (view_at row1 group) (view_at row2 group) ≡ call.turn.others ++ marked call.turn
+        added_is = ap (λ v. added (view_at row1 group) v) now_pass ∙ turn_added call.turn.others (marked call.turn) (view_at row1 group) call.pass call.turn.turn
 
         no_others : call.turn.others ≡ []
         no_others = no_entries call.turn.others (none_front (entries_of call.turn.others) call.turn.entries
-            (ap (λ l. entries_of call.turn.others ++ l) (sym (entries_all call.turn.new.shelves call.turn.entries))
-            ∙ (sym (entries_append call.turn.others (all_logged call.turn.new.shelves call.turn.entries)) ∙ (sym (ap entries_of added_is) ∙ here_gained))))
+            (ap (λ l. entries_of call.turn.others ++ l) (sym (entries_all call.turn.new.shelves call.turn.more call.turn.entries))
+            ∙ (sym (entries_append call.turn.others (marked call.turn)) ∙ (sym (ap entries_of added_is) ∙ here_gained))))
 
         -- what was gained, with its marks
-        pub added_here : added (view_at row0 group) (view_at row2 group) ≡ all_logged call.turn.new.shelves call.turn.entries
+        pub added_here : added (view_at row0 group) (view_at row2 group) ≡ marked call.turn
         added_here =
             gain_in_parts (view_at row0 group) (view_at row1 group) (view_at row2 group) ((work_all_went job k0 k1 checked_work).groups group) ((work_all_went job k1 k2 call_work).groups group)
             ∙ (ap (λ l. l ++ added (view_at row1 group) (view_at row2 group)) (no_entries (added (view_at row0 group) (view_at row1 group)) (nothing_first group))
-            ∙ (added_is ∙ ap (λ l. l ++ all_logged call.turn.new.shelves call.turn.entries) no_others))
+            ∙ (added_is ∙ ap (λ l. l ++ marked call.turn) no_others))
 
         pub met_log : call.turn.old.log ≡ seen_in row0 group
         met_log =
-            sym (entries_all call.turn.old.shelves call.turn.old.log)
+            sym (entries_kept call.turn.old)
             ∙ (ap entries_of call.turn.transition
             ∙ (ap (λ l. entries_of ((view_at row1 group).seen ++ l)) no_others ∙ (ap entries_of (append-nil (view_at row1 group).seen) ∙ ap (λ f. f group) logs_met)))
 
@@ -329,7 +329,7 @@ module _ {rack : Rack} {names turn : List TurnName} (job : ℕ) {row0 row1 : Gro
       gains_here : gained row0 row2 group ≡ call.turn.entries
       gains_here = sym (own_each job (gained row0 row2 group) (its_all group)) ∙ own_here alone_all
 
-      marked_here : added (view_at row0 group) (view_at row2 group) ≡ all_logged call.turn.new.shelves call.turn.entries
+      marked_here : added (view_at row0 group) (view_at row2 group) ≡ marked call.turn
       marked_here = added_here alone_all its_all
 
     -- the log that the pass has seen then is that of the group
@@ -337,10 +337,10 @@ module _ {rack : Rack} {names turn : List TurnName} (job : ℕ) {row0 row1 : Gro
     log_now =
         ap (λ v. entries_of v.seen) (ap (λ r. view_at r group) call.is ∙ at_set row1 group call.pass in_row)
         ∙ (ap (λ (v : GroupPass). entries_of v.seen) call.turn.turn
-        ∙ (entries_append ((view_at row1 group).seen ++ call.turn.others) (all_logged call.turn.new.shelves call.turn.entries)
-        ∙ (ap (λ l. entries_of l ++ entries_of (all_logged call.turn.new.shelves call.turn.entries)) (sym call.turn.transition)
-        ∙ (ap (λ l. l ++ entries_of (all_logged call.turn.new.shelves call.turn.entries)) (entries_all call.turn.old.shelves call.turn.old.log)
-        ∙ (ap (λ l. call.turn.old.log ++ l) (entries_all call.turn.new.shelves call.turn.entries) ∙ sym call.turn.log)))))
+        ∙ (entries_append ((view_at row1 group).seen ++ call.turn.others) (marked call.turn)
+        ∙ (ap (λ l. entries_of l ++ entries_of (marked call.turn)) (sym call.turn.transition)
+        ∙ (ap (λ l. l ++ entries_of (marked call.turn)) (entries_kept call.turn.old)
+        ∙ (ap (λ l. call.turn.old.log ++ l) (entries_all call.turn.new.shelves call.turn.more call.turn.entries) ∙ sym call.turn.log)))))
 
     pub table_now : replayed call.turn.old.first (entries_of (view_at row2 group).seen) ≡ call.turn.new.table
     table_now =
@@ -390,10 +390,10 @@ module _ {rack : Rack} {names turn : List TurnName} (job : ℕ) {row0 row1 : Gro
     come_marked : (meant : ℕ → Meaning) → told → IsMeant (meant to) (meaning shelf.archive) → AllOnlyWriters k0 with_it → (g : ℕ) → g < length row0.names → AreMarkedBy meant (added (view_at row0 g) (view_at row2 g))
     come_marked meant tells is sole g lt l n has arr = ⊎_elim
         (λ (same_group : g ≡ group).
-        (let there : Contains (all_logged call.turn.new.shelves (e ∷ [])) l =
-        subst (λ es. Contains (all_logged call.turn.new.shelves es) l) comes.entries_are
+        (let there : Contains (all_logged call.turn.new.shelves call.turn.more (e ∷ [])) l =
+        subst (λ es. Contains (all_logged call.turn.new.shelves call.turn.more es) l) comes.entries_are
         (subst (λ ls. Contains ls l) (marked_here same2 ready2 within call came_all sole) (subst (λ h. Contains (added (view_at row0 h) (view_at row2 h)) l) same_group has)) in
-        let one : logged_at call.turn.new.shelves e ≡ l = one_contained (logged_at call.turn.new.shelves e) l there in
+        let one : logged_at call.turn.new.shelves call.turn.more e ≡ l = one_contained (logged_at call.turn.new.shelves call.turn.more e) l there in
         let its_number : to ≡ n = one_contained to n (subst (λ ns. Contains ns n) arrives (subst (λ (x : Logged). Contains (arrival x.entry) n) (sym one) arr)) in
         subst (λ k. l.taken ≡ Some (taking_of (meant k))) its_number
         (ap (λ (x : Logged). x.taken) (sym one) ∙ (marks_by call.turn.new.shelves e to (subst (λ ns. Contains ns to) (sym arrives) (zero, omega arith, refl)) ∙ ap (λ m. Some m) (its_marks meant tells is)))))

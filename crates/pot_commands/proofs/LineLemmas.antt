@@ -18,11 +18,11 @@ use Rattle.pot_replies.specs.Settings.{Setting}
 use Rattle.pot_replies.specs.Sections.{Section}
 use Rattle.pot_replies.specs.Listings.{Counts, counts_of, StatusLine, Group, GroupFull, IsStatusLine}
 use Rattle.pot_shared.specs.declared.member.Logged.{Logged}
-use Rattle.pot_shared.specs.Members.{all_logged, entries_of}
+use Rattle.pot_shared.specs.Members.{entries_of}
 use Rattle.pot_shared.specs.Ready.{GroupPass, GroupPasses}
 use Rattle.pot_group.specs.Calls.{CountCall}
-use Rattle.pot_shared.specs.Calls.{CallTurn, CallAt}
-use Rattle.pot_shared.proofs.MemberLemmas.{entries_all, entries_append}
+use Rattle.pot_shared.specs.Calls.{CallTurn, CallAt, marked}
+use Rattle.pot_shared.proofs.MemberLemmas.{entries_all, entries_append, entries_kept}
 use Rattle.pot_shared.specs.Works.{of_job}
 use Rattle.pot_shared.proofs.WorkLemmas.{all_none, all_cons, all_one, own_entries}
 use Rattle.pot_commands.specs.Rows.{reply_of_line}
@@ -104,22 +104,22 @@ module _ (told : Type 0) (job : ℕ) (line : StatusLine) (v w : GroupPass) (turn
   pub all_own : AllOf (is_of job) turn.entries
   all_own = subst (λ es. AllOf (is_of job) es) (sym its_entries) (line_own job line)
 
-  abbrev marked : List Logged
-  marked = all_logged turn.new.shelves turn.entries
+  abbrev its_marked : List Logged
+  its_marked = marked turn
 
   turn_own : OnlyWriterOf (of_job job) v w → own job (entries_of (added v w)) ≡ line_entries job line
   turn_own alone =
       own_entries job (added v w)
-      ∙ (ap entries_of (own_in_turn (of_job job) v w turn.others marked turn.turn (all_marked job turn.entries marked (entries_all turn.new.shelves turn.entries) all_own) alone)
-      ∙ (entries_all turn.new.shelves turn.entries ∙ its_entries))
+      ∙ (ap entries_of (own_in_turn (of_job job) v w turn.others its_marked turn.turn (all_marked job turn.entries its_marked (entries_all turn.new.shelves turn.more turn.entries) all_own) alone)
+      ∙ (entries_all turn.new.shelves turn.more turn.entries ∙ its_entries))
 
   turn_gain : entries_of (added v w) ≡ entries_of turn.others ++ line_entries job line
   turn_gain =
-      ap entries_of (turn_added turn.others marked v w turn.turn)
-      ∙ (entries_append turn.others marked ∙ ap (λ es. entries_of turn.others ++ es) (entries_all turn.new.shelves turn.entries ∙ its_entries))
+      ap entries_of (turn_added turn.others its_marked v w turn.turn)
+      ∙ (entries_append turn.others its_marked ∙ ap (λ es. entries_of turn.others ++ es) (entries_all turn.new.shelves turn.more turn.entries ∙ its_entries))
 
   met_log : turn.old.log ≡ entries_of v.seen ++ entries_of turn.others
-  met_log = sym (entries_all turn.old.shelves turn.old.log) ∙ (ap entries_of turn.transition ∙ entries_append v.seen turn.others)
+  met_log = sym (entries_kept turn.old) ∙ (ap entries_of turn.transition ∙ entries_append v.seen turn.others)
 
   turn_leads : (first : Table) → first ≡ turn.old.first → replayed first (entries_of v.seen ++ entries_of turn.others) ≡ turn.old.table
   turn_leads first same =

@@ -22,7 +22,7 @@ use Rattle.pot_commands.specs.declared.beginning.Task.{Task}
 use Rattle.pot_commands.specs.Begun.{HasTask, HaveTasks}
 use Rattle.pot_shared.specs.Callers.{CanCall}
 use Rattle.pot_commands.specs.Sharing.{Common}
-use Rattle.pot_commands.specs.Jobs.{JobView, IsDone, DidBlinded, IsGiven, AreGiven, AreShared, tasks_in}
+use Rattle.pot_commands.specs.Jobs.{JobView, IsDone, Did, IsGiven, AreGiven, AreShared, tasks_in}
 
 -- PARTS THAT ARE GIVEN AWAY
 
@@ -163,12 +163,12 @@ back_shared b old from lines js ks now is same =
     subst (λ is. AreShared b old from (take (length is) lines) is now) (sym same) (subst (λ cs. AreShared b old from cs js now) (sym whole) is)
 
 -- so the jobs of all lines were worked, or none was
-pub lines_worked : (told : Type 0) (b : Common) (old : Known) (from : ℕ) (lines : List Command) (tasks : List Task) (js : List JobView) (now : Known) (result : Result (Vec JobView Global) (JobsRefused JobView)) → AreShared b old from lines js now
-    → tasks_in js ≡ tasks → IfOk result (λ back. AreWorked IsDone (DidBlinded told) js back.items) → IfErr result (λ refused. refused.jobs.items ≡ js)
-    → MatchResult result (λ back. (ks : List JobView) × AreShared b old from lines ks now × (tasks_in ks ≡ tasks) × AreWorked IsDone (DidBlinded told) ks back.items)
+pub lines_worked : (b : Common) (old : Known) (from : ℕ) (lines : List Command) (tasks : List Task) (js : List JobView) (now : Known) (result : Result (Vec JobView Global) (JobsRefused JobView)) → AreShared b old from lines js now
+    → tasks_in js ≡ tasks → IfOk result (λ back. AreWorked IsDone Did js back.items) → IfErr result (λ refused. refused.jobs.items ≡ js)
+    → MatchResult result (λ back. (ks : List JobView) × AreShared b old from lines ks now × (tasks_in ks ≡ tasks) × AreWorked IsDone Did ks back.items)
     (λ refused. AreShared b old from (take (length refused.jobs.items) lines) refused.jobs.items now)
-lines_worked told b old from lines tasks js now (Ok back) shared same worked refused = (js, shared, same, worked)
-lines_worked told b old from lines tasks js now (Err r) shared same worked refused = back_shared b old from lines js r.jobs.items now shared refused
+lines_worked b old from lines tasks js now (Ok back) shared same worked refused = (js, shared, same, worked)
+lines_worked b old from lines tasks js now (Err r) shared same worked refused = back_shared b old from lines js r.jobs.items now shared refused
 
 -- TASKS
 

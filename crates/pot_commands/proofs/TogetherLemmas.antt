@@ -28,7 +28,7 @@ use Rattle.pot_commands.specs.Begun.{HasTask, HaveBegun, AreMovesBegun}
 use Rattle.pot_commands.specs.Steps.{StepGives, StepLeaves, AreLinesLeft}
 use Rattle.pot_shared.specs.Callers.{CanCall}
 use Rattle.pot_commands.specs.Sharing.{Common}
-use Rattle.pot_commands.specs.Jobs.{JobView, HasPasses, IsDone, Did, DidBlinded, AreGiven, AreShared, AllJoined, reply_in, has_reply, replies_in, all_replied, tasks_in}
+use Rattle.pot_commands.specs.Jobs.{JobView, HasPasses, IsDone, Did, AreGiven, AreShared, AllJoined, reply_in, has_reply, replies_in, all_replied, tasks_in}
 use Rattle.pot_commands.specs.Batches.{Line, group_rows, index_rows, KnownJoins, IsGivenOf, AreLines, AllSay, lines_of, tasks_of, replies_of, have_replies, BringsNone}
 use Rattle.pot_commands.proofs.Going.{known_follows, setting_of_stays, setting_stays, sole_parts}
 use Rattle.pot_commands.proofs.Brought.{its_setting, is_setting}
@@ -392,12 +392,9 @@ pub record AreLinesWorked (b : Common) (old v : Known) (from : ℕ) (cs : List C
   pub tasks_are : tasks_in given ≡ tasks
   pub are_worked : AreWorked IsDone Did given ks
 
-worked_did : (told : Type 0) (js ks : List JobView) → AreWorked IsDone (DidBlinded told) js ks → AreWorked IsDone Did js ks
-worked_did told js ks is = record { count = is.count; each = λ i x y at at'. (let e = is.each i x y at at' in (e.0, e.1.did)) }
-
-pub lines_worked_are : (told : Type 0) (b : Common) (old v : Known) (from : ℕ) (cs : List Command) (tasks : List Task) (ks : List JobView)
-    → ((js : List JobView) × AreShared b old from cs js v × (tasks_in js ≡ tasks) × AreWorked IsDone (DidBlinded told) js ks) → AreLinesWorked b old v from cs tasks ks
-lines_worked_are told b old v from cs tasks ks (js, shared, same, worked) = record { given = js; shared = shared; tasks_are = same; are_worked = worked_did told js ks worked }
+pub lines_worked_are : (b : Common) (old v : Known) (from : ℕ) (cs : List Command) (tasks : List Task) (ks : List JobView)
+    → ((js : List JobView) × AreShared b old from cs js v × (tasks_in js ≡ tasks) × AreWorked IsDone Did js ks) → AreLinesWorked b old v from cs tasks ks
+lines_worked_are b old v from cs tasks ks (js, shared, same, worked) = record { given = js; shared = shared; tasks_are = same; are_worked = worked }
 
 -- A batch was worked, and the passes of its jobs were taken back.
 pub record IsTaken (b : Common) (old v x : Known) (from : ℕ) (cs : List Command) (tasks : List Task) (ks : List JobView) : Type 0 where

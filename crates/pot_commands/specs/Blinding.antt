@@ -9,11 +9,11 @@ use Rattle.pot_commands.specs.Sharing.{Common}
 
 -- A command that mends what it finds lost gives each relay that its job begins the next blind of
 -- the stream of the seed, the session and the job.
-abbrev pub HasBlinds : Type 0 → Common → ℕ → Command → GroupPasses → GroupPasses → Type 0
-HasBlinds told b job (commands.Fetch name) old new =
-    (after : Pads) × Blinds told job (pads_of b.seed b.session job) after old new
-HasBlinds told b job (commands.Renew name geometry) old new =
-    (after : Pads) × Blinds told job (pads_of b.seed b.session job) after old new
-HasBlinds told b job (commands.Repair group) old new =
-    (after : Pads) × Blinds told job (pads_of b.seed b.session job) after old new
-HasBlinds told b job c old new = Unit {0}
+abbrev pub HasBlinds : Common → ℕ → Command → GroupPasses → GroupPasses → Type 0
+HasBlinds b job (commands.Fetch name) old new =
+    (after : Pads) × Blinds job (pads_of b.seed b.session job) after old new
+HasBlinds b job (commands.Renew name geometry) old new =
+    (after : Pads) × Blinds job (pads_of b.seed b.session job) after old new
+HasBlinds b job (commands.Repair group) old new =
+    (after : Pads) × Blinds job (pads_of b.seed b.session job) after old new
+HasBlinds b job c old new = Unit {0}

@@ -78,7 +78,8 @@ Says s job c (task.Move at) answer w = SaysMove s job c at answer w
 Says s job c (task.Told reply) answer w = (answer ≡ Some (Ok reply)) × IsSilent (mine job w)
 
 -- The job that was handed in, and what its work leaves of it: it worked for itself alone, and its
--- entries give its answer, if nobody else logged an entry of it.
+-- entries give its answer, if nobody else logged an entry of it. Each relay that it began has its
+-- blind of the job's stream.
 pub record Did (j k : JobView) : Type 0 where
   pub common : k.common ≡ j.common
   pub number : k.job ≡ j.job
@@ -88,12 +89,7 @@ pub record Did (j k : JobView) : Type 0 where
   pub says : JobOnlyWriter j.job j.passes k.passes → (s : Setting)
       → IsSessionSetting s j.common.vault.rack j.common.seed j.common.session j.passes
       → Says s j.job j.line j.task k.answer (section_of j.passes k.passes)
-
--- And each relay that it began has its blind of the job's stream. `told` is whether archives tell
--- what they hold.
-pub record DidBlinded (told : Type 0) (j k : JobView) : Type 0 where
-  pub did : Did j k
-  pub blinds : HasBlinds told j.common j.job j.line j.passes.groups k.passes.groups
+  pub blinds : HasBlinds j.common j.job j.line j.passes.groups k.passes.groups
 
 -- SHARED OUT
 

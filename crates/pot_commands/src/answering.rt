@@ -192,7 +192,7 @@ pub(crate) fn answer_one<A: Archive, X: Wait>(
     requires single { IsSingle shared.now.vault.now.rack.groups command.now }
     ensures can { CanCall shared.now.vault.now passes.new }
     ensures worked { JobWroteOnly job passes.old passes.new }
-    ensures blinds { HasBlinds (IsTrue A.account.tells) (common_of shared.now) job command.now
+    ensures blinds { HasBlinds (common_of shared.now) job command.now
         passes.old.groups passes.new.groups }
     ensures says { let old = passes.old in let new = passes.new in
         let w = section_of old new in
@@ -261,7 +261,7 @@ fn answer_plain<A: Archive, X: Wait>(
     requires plain { IsPlain shared.now.vault.now.rack.groups command.now }
     ensures can { CanCall shared.now.vault.now passes.new }
     ensures worked { JobWroteOnly job passes.old passes.new }
-    ensures blinds { HasBlinds (IsTrue A.account.tells) (common_of shared.now) job command.now
+    ensures blinds { HasBlinds (common_of shared.now) job command.now
         passes.old.groups passes.new.groups }
     ensures says { let old = passes.old in let new = passes.new in
         let w = section_of old new in
@@ -302,7 +302,7 @@ pub(crate) fn answer<R: Room, X: Wait>(
     requires used { AreUsed (R.meaning room.old) passes.old.groups }
     ensures can { CanCall shared.now.vault.now passes.new }
     ensures worked { JobWroteOnly job passes.old passes.new }
-    ensures blinds { HasBlinds (IsTrue R.A.account.tells) (common_of shared.now) job command.now
+    ensures blinds { HasBlinds (common_of shared.now) job command.now
         passes.old.groups passes.new.groups }
     ensures says { let old = passes.old in let new = passes.new in
         let w = section_of old new in

@@ -19,7 +19,7 @@ ghost use Rattle.pot_commands.specs.Steps.{IsBatched, StepGives, StepLeaves, Ste
 ghost use Rattle.pot_commands.specs.Begun.{HaveTasks, AreMovesBegun};
 ghost use Rattle.pot_shared.specs.Callers.{CanCall, HaveParts};
 ghost use Rattle.pot_commands.specs.Sharing.{common_of};
-ghost use Rattle.pot_commands.specs.Jobs.{JobView, HasPasses, IsDone, DidBlinded};
+ghost use Rattle.pot_commands.specs.Jobs.{JobView, HasPasses, IsDone, Did};
 ghost use Rattle.pot_commands.specs.Jobs.{AreShared, AllJoined, all_replied, replies_in, tasks_in};
 ghost use Rattle.pot_commands.specs.Batches.{BringsNone};
 ghost use Rattle.pot_commands.specs.Taking.{AreUsed, Took, asks};
@@ -99,7 +99,7 @@ fn work_lines<'a, A: Archive + Send, W: Gate, X: Threads + Wait + Sync>(
         MatchResult result
         (λ back. (js : List JobView) × AreShared b old job lines.now js new
         × (tasks_in js ≡ tasks.items)
-        × AreWorked IsDone (DidBlinded (IsTrue A.account.tells)) js back.items)
+        × AreWorked IsDone Did js back.items)
         (λ r. AreShared b old job (take (length r.jobs.items) lines.now) r.jobs.items new) }
 {
     let shared = &crew.shared;

@@ -1,5 +1,5 @@
 //! The commands on files and names, each through a connection of its own job.
-ghost use Rattle.std.specs.Prelude.{◌≡◌, ◌<◌, true, IsTrue, MatchResult};
+ghost use Rattle.std.specs.Prelude.{◌≡◌, ◌<◌, true, MatchResult};
 ghost use Rattle.pot_index.specs.Fits.{FitsGeometry};
 ghost use Rattle.pot_rows.specs.Rows.{HasMoreParts};
 ghost use Rattle.pot_replies.specs.Sections.{mine, IsSilent};
@@ -65,7 +65,7 @@ pub(crate) fn fetch<A: Archive, X: Wait>(
     ensures worked { JobWroteOnly caller.now.job passes.old passes.new }
     ensures says { IfOnlyWriterFor caller.now passes.old passes.new
         (λ s w. s.mends ≡ true → AreFilled s → FetchRow s caller.now.job name.now result w) }
-    ensures blinds { Blinds (IsTrue A.account.tells) caller.now.job pads.old pads.new
+    ensures blinds { Blinds caller.now.job pads.old pads.new
         passes.old.groups passes.new.groups }
 {
     let mut connection = caller.connection(passes);
@@ -95,7 +95,7 @@ pub(crate) fn renew<A: Archive, X: Wait>(
     ensures says { IfOnlyWriterFor caller.now passes.old passes.new
         (λ s w. s.mends ≡ true → AreFilled s → RenewsFrom s pads geometry.now caller.now.job
         → RenewRow s caller.now.job name.now geometry.now result w) }
-    ensures blinds { Blinds (IsTrue A.account.tells) caller.now.job blinds.old blinds.new
+    ensures blinds { Blinds caller.now.job blinds.old blinds.new
         passes.old.groups passes.new.groups }
 {
     let mut connection = caller.connection(passes);

@@ -1,5 +1,5 @@
 //! A line of a batch, as a job for a worker.
-ghost use Rattle.std.specs.Prelude.{◌≡◌, ◌<◌, ◌^◌, IfOk, IfErr, IsTrue, Some};
+ghost use Rattle.std.specs.Prelude.{◌≡◌, ◌<◌, ◌^◌, IfOk, IfErr, Some};
 ghost use Rattle.pot_rows.specs.Rows.{HasMoreParts};
 ghost use Rattle.pot_rows.specs.Parts.{RowCut};
 ghost use Rattle.pot_shared.specs.Sharing.{SameAt};
@@ -54,12 +54,11 @@ impl<'a, A: Archive, R> Model for LineJob<'a, A, R> {
 }
 
 impl<'a, A: Archive, R: Wait> Job for LineJob<'a, A, R> {
-    ghost use Rattle.std.specs.Prelude.{IsTrue};
-    ghost use Rattle.pot_commands.specs.Jobs.{IsDone, DidBlinded};
+    ghost use Rattle.pot_commands.specs.Jobs.{IsDone, Did};
 
     ghost done = { IsDone };
 
-    ghost related = { DidBlinded (IsTrue A.account.tells) };
+    ghost related = { Did };
 
     fn work(&mut self) {
         let task = replace(&mut self.task, Task::Line);
@@ -99,7 +98,7 @@ fn answer_task<A: Archive, X: Wait>(
     requires fits { HasTask shared.now.vault.now.rack line.now task }
     ensures can { CanCall shared.now.vault.now passes.new }
     ensures worked { JobWroteOnly job passes.old passes.new }
-    ensures blinds { HasBlinds (IsTrue A.account.tells) (common_of shared.now) job line.now
+    ensures blinds { HasBlinds (common_of shared.now) job line.now
         passes.old.groups passes.new.groups }
     ensures says { let old = passes.old in let new = passes.new in
         JobOnlyWriter job old new → (s : Setting)

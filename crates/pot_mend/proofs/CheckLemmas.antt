@@ -32,10 +32,10 @@ use Rattle.pot_replies.specs.Moves.{HasHome, IsUsed, NoHome, moving_at}
 use Rattle.pot_shared.specs.declared.member.GroupOrigin.{GroupOrigin}
 use Rattle.pot_shared.specs.Members.{all_logged, entries_of, kept_log, origin_of}
 use Rattle.pot_shared.specs.Ready.{AreReady, GroupPass, GroupPasses}
-use Rattle.pot_shared.specs.Calls.{CallTurn}
+use Rattle.pot_shared.specs.Calls.{CallTurn, marked}
 use Rattle.pot_shared.specs.Catalogs.{IndexPasses}
 use Rattle.pot_shared.specs.UseCalls.{TraceCall, TracesAll, first_home}
-use Rattle.pot_shared.proofs.MemberLemmas.{entries_all}
+use Rattle.pot_shared.proofs.MemberLemmas.{entries_kept}
 use Rattle.pot_shared.specs.Works.{of_job, gained, known, IsSettingOf}
 use Rattle.pot_shared.proofs.WorkLemmas.{all_none, own_entries}
 use Rattle.pot_mend.specs.Moves.{IsAsked, MigrateChecked, ReplaceChecked, seen_in}
@@ -132,22 +132,22 @@ module _ (told : Type 0) (rack : Rack) (turns : List TurnName) (from to : ℕ) (
     turn : CallTurn told (TraceCall from to x) (view_at old g) (view_at new g)
     turn = traces.asked.each g x at
 
-    nothing : all_logged turn.new.shelves turn.entries ≡ []
-    nothing = ap (all_logged turn.new.shelves) turn.call.0
+    nothing : marked turn ≡ []
+    nothing = ap (all_logged turn.new.shelves turn.more) turn.call.0
 
-    none_of : (job : ℕ) → AllOf (of_job job) (all_logged turn.new.shelves turn.entries)
+    none_of : (job : ℕ) → AllOf (of_job job) (marked turn)
     none_of job = subst (λ ls. AllOf (of_job job) ls) (sym nothing) (all_none (of_job job))
 
     its_work : (job : ℕ) → WroteOnlyFor (of_job job) (view_at old g) (view_at new g)
-    its_work job = work_goes_on (of_job job) (view_at old g) (view_at new g) turn.others (all_logged turn.new.shelves turn.entries) turn.turn (none_of job)
+    its_work job = work_goes_on (of_job job) (view_at old g) (view_at new g) turn.others (marked turn) turn.turn (none_of job)
 
     -- the log that the pass has seen is the one that the call met
     transition : seen_in new g ≡ turn.old.log
     transition =
-        let seen : (view_at new g).seen ≡ ((view_at old g).seen ++ turn.others) ++ all_logged turn.new.shelves turn.entries = ap (λ (v : GroupPass). v.seen) turn.turn in
+        let seen : (view_at new g).seen ≡ ((view_at old g).seen ++ turn.others) ++ marked turn = ap (λ (v : GroupPass). v.seen) turn.turn in
         let same : (view_at new g).seen ≡ kept_log turn.old =
         seen ∙ (ap (λ ls. ((view_at old g).seen ++ turn.others) ++ ls) nothing ∙ (append-nil ((view_at old g).seen ++ turn.others) ∙ sym turn.transition)) in
-        ap entries_of same ∙ entries_all turn.old.shelves turn.old.log
+        ap entries_of same ∙ entries_kept turn.old
 
     number_is : turn.old.number ≡ g
     number_is = from_some (view_at old g).origin (origin_of turn.old) (λ (o : GroupOrigin). o.number ≡ g) turn.origin
@@ -181,7 +181,7 @@ module _ (told : Type 0) (rack : Rack) (turns : List TurnName) (from to : ℕ) (
       (λ (lt : g < length traces.answers).
       let x = there_is traces.answers g lt in
       let c = turn g x.0 x.1 in
-      own_in_turn (of_job job) (view_at old g) (view_at new g) c.others (all_logged c.new.shelves c.entries) c.turn (none_of g x.0 x.1 job) (alone g) ∙ nothing g x.0 x.1)
+      own_in_turn (of_job job) (view_at old g) (view_at new g) c.others (marked c) c.turn (none_of g x.0 x.1 job) (alone g) ∙ nothing g x.0 x.1)
       (λ (past : length traces.answers ≤ g).
       let same : view_at new g ≡ view_at old g = traces.asked.rest g past in
       subst (λ (v : GroupPass). filter (of_job job) (added (view_at old g) v) ≡ []) (sym same)

@@ -33,12 +33,12 @@ use Rattle.pot_replies.specs.Jobs.{is_copied, is_move_of, EachIs}
 use Rattle.pot_replies.specs.Sections.{Section, IsOnlyIn, mine}
 use Rattle.pot_replies.specs.Settings.{Setting}
 use Rattle.pot_shared.specs.declared.member.GroupOrigin.{GroupOrigin}
-use Rattle.pot_shared.specs.Members.{all_logged, entries_of, logged_at, origin_of}
+use Rattle.pot_shared.specs.Members.{entries_of, origin_of}
 use Rattle.pot_shared.specs.Ready.{AreReady, GroupPass, GroupPasses}
-use Rattle.pot_shared.specs.Calls.{CallAt}
+use Rattle.pot_shared.specs.Calls.{CallAt, marked}
 use Rattle.pot_shared.specs.Catalogs.{IndexPasses}
 use Rattle.pot_group.specs.Calls.{MoveStepCall, MoveTells}
-use Rattle.pot_shared.proofs.MemberLemmas.{entries_all}
+use Rattle.pot_shared.proofs.MemberLemmas.{all_long, entries_all, entries_kept}
 use Rattle.pot_shared.specs.Works.{of_job, gained, known, section_of, IsSettingOf}
 use Rattle.pot_shared.proofs.WorkLemmas.{all_none, all_one, group_else, group_own, group_work, own_more, row_stays}
 use Rattle.pot_shared.proofs.WorkLemmas.{gained_none}
@@ -155,25 +155,25 @@ module _ (told : Type 0) (job group c copied : ℕ) (rack : Rack) (names : List 
   here : view_at next group ≡ call.pass
   here = ap (λ (r : GroupPasses). view_at r group) call.is ∙ at_set now group call.pass long
 
-  next_seen : (view_at next group).seen ≡ ((view_at now group).seen ++ call.turn.others) ++ all_logged call.turn.new.shelves call.turn.entries
+  next_seen : (view_at next group).seen ≡ ((view_at now group).seen ++ call.turn.others) ++ marked call.turn
   next_seen = ap (λ (v : GroupPass). v.seen) here ∙ ap (λ (v : GroupPass). v.seen) call.turn.turn
 
   -- how long the log is that was seen
   longer : length (view_at next group).seen ≡ (length (view_at now group).seen + length call.turn.others) + length call.turn.entries
   longer =
-      let parts = ap length next_seen ∙ length-append ((view_at now group).seen ++ call.turn.others) (all_logged call.turn.new.shelves call.turn.entries) in
+      let parts = ap length next_seen ∙ length-append ((view_at now group).seen ++ call.turn.others) (marked call.turn) in
       let front = length-append (view_at now group).seen call.turn.others in
-      let back = length-map call.turn.entries (logged_at call.turn.new.shelves) in
+      let back = all_long call.turn.new.shelves call.turn.more call.turn.entries in
       omega (arith, parts, front, back)
 
   -- the log that was left is all that was seen
   left : seen_in next group ≡ call.turn.new.log
   left =
-      let transition : entries_of ((view_at now group).seen ++ call.turn.others) ≡ call.turn.old.log = ap entries_of (sym call.turn.transition) ∙ entries_all call.turn.old.shelves call.turn.old.log in
+      let transition : entries_of ((view_at now group).seen ++ call.turn.others) ≡ call.turn.old.log = ap entries_of (sym call.turn.transition) ∙ entries_kept call.turn.old in
       ap entries_of next_seen
-      ∙ (map-append (λ l. l.entry) ((view_at now group).seen ++ call.turn.others) (all_logged call.turn.new.shelves call.turn.entries)
-      ∙ (ap (λ l. l ++ entries_of (all_logged call.turn.new.shelves call.turn.entries)) transition
-      ∙ (ap (λ l. call.turn.old.log ++ l) (entries_all call.turn.new.shelves call.turn.entries) ∙ sym call.turn.log)))
+      ∙ (map-append (λ l. l.entry) ((view_at now group).seen ++ call.turn.others) (marked call.turn)
+      ∙ (ap (λ l. l ++ entries_of (marked call.turn)) transition
+      ∙ (ap (λ l. call.turn.old.log ++ l) (entries_all call.turn.new.shelves call.turn.more call.turn.entries) ∙ sym call.turn.log)))
 
   bounded : length (view_at next group).seen ≤ log_bound
   bounded =

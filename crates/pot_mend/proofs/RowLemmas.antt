@@ -206,7 +206,7 @@ module _ (told : Type 0) (job : ℕ) (rack : Rack) (names : List TurnName) (g s 
     pub group_work : RowWroteOnlyFor (of_job job) u x
     group_work = row_work_in_parts (of_job job) u v x sofar.sofar.adds.worked last_more.worked
 
-    pub group_blinds : Blinds told job pads after u v → Blinds told job pads after u x
+    pub group_blinds : Blinds job pads after u v → Blinds job pads after u x
     group_blinds before = blinds_then before (blinds_quiet (none_adds job g [] v x refl last_more))
 
     pub group_draws : Draws job g pads after u x
@@ -240,7 +240,7 @@ module _ (told : Type 0) (job : ℕ) (rack : Rack) (names : List TurnName) (g s 
         (repair_found job g s c r.mended r.left sofar.draws u v x sofar.sofar found_more p found_finds found_from)
 
     module _ (after' : Pads) (w : GroupPasses) where
-      pub found_blinds : Blinds told job pads after u v → Blinds told job after after' x w → Blinds told job pads after' u w
+      pub found_blinds : Blinds job pads after u v → Blinds job after after' x w → Blinds job pads after' u w
       found_blinds before place = blinds_then (blinds_then before (blinds_quiet (none_adds job g [] v x refl found_more))) place
 
       module _ (more : Repaired) (place : RepairsPlace job p (Ok more) after after' x w) where

@@ -1,7 +1,7 @@
 -- Calls of a job on one group, one after another.
 use Rattle.std.proofs.Common.{◌≡◌, ◌<◌, ◌≤◌, ℕ, ◌+◌, List, [], ◌++◌, length, ap, sym, ◌∙◌, subst, arith, append_assoc, length-append}
 use Rattle.std.specs.Prelude.{Option, Some, IfSome}
-use Rattle.std.proofs.lemmas.List.{map-append, length-map}
+use Rattle.std.proofs.lemmas.List.{map-append}
 use lib.Seq.{drop-length}
 use Rattle.pot_bytes.specs.declared.rack.Place.{Place}
 use Rattle.pot_bytes.specs.declared.rack.Rack.{Rack}
@@ -23,11 +23,11 @@ use Rattle.pot_rows.proofs.RowLemmas.{at_set}
 use Rattle.pot_rows.proofs.WorkLemmas.{row_work_in_parts, row_alone_in_parts}
 use Rattle.pot_shared.specs.declared.member.Logged.{Logged}
 use Rattle.pot_shared.specs.declared.member.GroupOrigin.{GroupOrigin}
-use Rattle.pot_shared.specs.Members.{entries_of, all_logged, logged_at, origin_of}
+use Rattle.pot_shared.specs.Members.{entries_of, origin_of}
 use Rattle.pot_shared.specs.Ready.{GroupPass, GroupPasses, AreReady, HasSlot}
-use Rattle.pot_shared.specs.Calls.{CallAt, NextCall}
+use Rattle.pot_shared.specs.Calls.{CallAt, NextCall, marked}
 use Rattle.pot_shared.proofs.CallLemmas.{is_origin, is_table}
-use Rattle.pot_shared.proofs.MemberLemmas.{entries_all}
+use Rattle.pot_shared.proofs.MemberLemmas.{all_long, entries_all, entries_kept}
 use Rattle.pot_shared.specs.Works.{of_job, gained}
 use Rattle.pot_shared.proofs.WorkLemmas.{all_none, group_work, group_own, group_else, own_more, row_stays}
 use Rattle.pot_shared.specs.Adds.{Adds, FindsNext, IsFirst, IsFromOn, IsNextOf, Once}
@@ -90,22 +90,22 @@ adds_then job g a b u v w one two = record {
 
 module _ (told : Type 0) (job : ℕ) (R : GroupView → GroupView → List Entry → Type 0) (group : ℕ) (v w : GroupPasses) (within : group < length v.views)
     (call : CallAt told R group v w) where
-  abbrev marked : List Logged
-  marked = all_logged call.turn.new.shelves call.turn.entries
+  abbrev its_marked : List Logged
+  its_marked = marked call.turn
 
   knows : view_at w group ≡ call.pass
   knows = ap (λ (r : GroupPasses). view_at r group) call.is ∙ at_set v group call.pass within
 
-  its_seen : (view_at w group).seen ≡ ((view_at v group).seen ++ call.turn.others) ++ marked
+  its_seen : (view_at w group).seen ≡ ((view_at v group).seen ++ call.turn.others) ++ its_marked
   its_seen = ap (λ (x : GroupPass). x.seen) knows ∙ ap (λ (x : GroupPass). x.seen) call.turn.turn
 
-  marked_long : length marked ≡ length call.turn.entries
-  marked_long = length-map call.turn.entries (logged_at call.turn.new.shelves)
+  marked_long : length its_marked ≡ length call.turn.entries
+  marked_long = all_long call.turn.new.shelves call.turn.more call.turn.entries
 
   seen_long : length (view_at w group).seen ≡ (length (view_at v group).seen + length call.turn.others) + length call.turn.entries
   seen_long =
       let a = ap length its_seen in
-      let b = length-append ((view_at v group).seen ++ call.turn.others) marked in
+      let b = length-append ((view_at v group).seen ++ call.turn.others) its_marked in
       let c = length-append (view_at v group).seen call.turn.others in
       let d = marked_long in
       omega (arith, a, b, c, d)
@@ -120,11 +120,11 @@ module _ (told : Type 0) (job : ℕ) (R : GroupView → GroupView → List Entry
 
   -- the log that was met, and the one that the call left
   met_log : call.turn.old.log ≡ entries_of (view_at v group).seen ++ entries_of call.turn.others
-  met_log = sym (entries_all call.turn.old.shelves call.turn.old.log) ∙ (ap entries_of call.turn.transition ∙ map-append (λ l. l.entry) (view_at v group).seen call.turn.others)
+  met_log = sym (entries_kept call.turn.old) ∙ (ap entries_of call.turn.transition ∙ map-append (λ l. l.entry) (view_at v group).seen call.turn.others)
 
   met_long : length call.turn.old.log ≡ length (view_at v group).seen + length call.turn.others
   met_long =
-      let a = length-map call.turn.old.log (logged_at call.turn.old.shelves) in
+      let a = all_long call.turn.old.shelves call.turn.old.blinds call.turn.old.log in
       let b = ap length call.turn.transition in
       let c = length-append (view_at v group).seen call.turn.others in
       omega (arith, a, b, c)
@@ -142,9 +142,9 @@ module _ (told : Type 0) (job : ℕ) (R : GroupView → GroupView → List Entry
 
   pub its_gain : gained v w group ≡ entries_of call.turn.others ++ call.turn.entries
   its_gain =
-      ap entries_of (behind (view_at w group).seen (view_at v group).seen (call.turn.others ++ marked) (its_seen ∙ append_assoc (view_at v group).seen call.turn.others marked))
-      ∙ (map-append (λ l. l.entry) call.turn.others marked
-      ∙ ap (λ es. entries_of call.turn.others ++ es) (entries_all call.turn.new.shelves call.turn.entries))
+      ap entries_of (behind (view_at w group).seen (view_at v group).seen (call.turn.others ++ its_marked) (its_seen ∙ append_assoc (view_at v group).seen call.turn.others its_marked))
+      ∙ (map-append (λ l. l.entry) call.turn.others its_marked
+      ∙ ap (λ es. entries_of call.turn.others ++ es) (entries_all call.turn.new.shelves call.turn.more call.turn.entries))
 
   -- the table that the call met
   pub met_first : (first : Table) → IsFirst group v first → first ≡ call.turn.old.first

@@ -1,22 +1,28 @@
 -- Where the blinds of a job's relays come from, part after part.
-use Rattle.std.proofs.Common.{◌≡◌, ◌≢◌, ⊎_elim, ℕ, Bool, true, false, List, [], ◌∷◌, ◌++◌, refl, ap, sym, ◌∙◌, subst}
+use Rattle.std.proofs.Common.{◌≡◌, ◌≢◌, ⊎_elim, inl, inr, ℕ, Bool, true, false, List, [], ◌∷◌, ◌++◌, refl, ap, ap₂, sym, ◌∙◌, subst}
 use Rattle.std.specs.Prelude.{filter}
 use Rattle.std.proofs.lemmas.Bool.{cases_eq}
+use Rattle.std.proofs.lemmas.Bool.Decides.{eqb_tells}
+use lib.Seq.{drop-length}
 use Rattle.pot_bytes.specs.declared.rack.Place.{Place}
 use Rattle.pot_bytes.specs.declared.rack.Rack.{Rack}
 use Rattle.pot_machine.specs.declared.entry.Entry.{Entry}
 use Rattle.pot_machine.specs.Logs.{own}
 use Rattle.pot_pads.specs.Pads.{Pads}
 use Rattle.pot_turn.specs.declared.name.TurnName.{TurnName}
+use Rattle.pot_worked.specs.WroteOnlyFor.{added}
+use Rattle.pot_rows.specs.Rows.{view_at}
 use Rattle.pot_rows.specs.Works.{AllIdle}
+use Rattle.pot_rows.proofs.RowLemmas.{at_other}
 use Rattle.pot_rows.proofs.WorkLemmas.{row_work_in_parts, row_alone_in_parts}
 use Rattle.pot_shared.specs.declared.mending.Mending.{Mending}
-use Rattle.pot_shared.specs.MendCalls.{MendsPlace}
-use Rattle.pot_shared.specs.Ready.{AreReady, GroupPasses}
+use Rattle.pot_shared.specs.MendCalls.{MendsPlace, begins, total}
+use Rattle.pot_shared.specs.Ready.{AreReady, GroupPass, GroupPasses}
 use Rattle.pot_shared.specs.Seen.{RowKnowsMore}
 use Rattle.pot_shared.specs.Adds.{Adds}
-use Rattle.pot_shared.specs.Blinds.{BeganNone, Blinds, GoesOver, Mends, Part, Quiet, is_begin}
-use Rattle.pot_shared.specs.Works.{OnlySaw, gained, of_job}
+use Rattle.pot_shared.specs.Blinds.{BeganNone, Blinds, behind, blinds_for, is_begin}
+use Rattle.pot_shared.specs.Works.{OnlySaw, blinds_by, blinds_in, gained, of_job}
+use Rattle.pot_shared.proofs.DrawLemmas.{behind_append, behind_draws, by_more, by_none, draws_of, for_append, for_group, for_other}
 use Rattle.pot_shared.proofs.WorkLemmas.{known_none, known_work, own_more, saw_none}
 
 -- NO RELAY BEGAN
@@ -72,25 +78,38 @@ none_known job rack names old new ready knows = record {
 
 -- BLINDS
 
-goes_then : (told : Type 0) (job : ℕ) (xs ys : List Part) (a b c : Pads) (u v w : GroupPasses) → GoesOver told job xs a b u v → GoesOver told job ys b c v w → GoesOver told job (xs ++ ys) a c u w
-goes_then told job [] ys a b c u v w (same, stays) rest =
-    subst (λ (x : Pads). GoesOver told job ys x c u w) same (subst (λ (x : GroupPasses). GoesOver told job ys b c x w) stays rest)
-goes_then told job (x ∷ xs) ys a b c u v w (mid, now, goes, more) rest = (mid, now, goes, goes_then told job xs ys mid b c now v w more rest)
+module _ {job : ℕ} where
+  pub blinds_quiet : {pads : Pads} {old new : GroupPasses} → BeganNone job old new → Blinds job pads pads old new
+  blinds_quiet {pads} {old} {new} quiet = record { worked = quiet.worked; draws = []; stream = refl; blinds = λ alone g. by_none job old new g (quiet.none alone g) }
 
-module _ {told : Type 0} {job : ℕ} where
   -- nothing was done
-  pub blinds_none : {pads : Pads} {row : GroupPasses} → Blinds told job pads pads row row
-  blinds_none = record { parts = []; goes = (refl, refl) }
+  pub blinds_none : {pads : Pads} {row : GroupPasses} → AllIdle row → Blinds job pads pads row row
+  blinds_none {pads} {row} idle = blinds_quiet (none_yet job row idle)
 
-  pub blinds_quiet : {pads : Pads} {old new : GroupPasses} → BeganNone job old new → Blinds told job pads pads old new
-  blinds_quiet {pads} {old} {new} quiet = record { parts = Quiet ∷ []; goes = (pads, new, (refl, quiet), (refl, refl)) }
-
-  pub blinds_mends : {p : Place} {pads after : Pads} {result : Mending} {old new : GroupPasses} → MendsPlace told job p pads after result old new → Blinds told job pads after old new
-  blinds_mends {p} {pads} {after} {result} {old} {new} mends = record { parts = Mends p result ∷ []; goes = (after, new, mends, (refl, refl)) }
+  pub blinds_mends : {told : Type 0} {p : Place} {pads after : Pads} {result : Mending} {old new : GroupPasses} → MendsPlace told job p pads after result old new → Blinds job pads after old new
+  blinds_mends {told} {p} {pads} {after} {result} {old} {new} mends = record {
+    worked = mends.worked;
+    draws = draws_of p.group n;
+    stream = mends.stream ∙ sym (behind_draws p.group pads n);
+    blinds = (λ alone g. elim (eqb_tells p.group g) [
+      | inl here ↦ subst (λ k. blinds_by job old new k ≡ blinds_for k pads (draws_of p.group n)) here.1 (mends.blinds alone ∙ sym (for_group p.group pads n))
+      | inr other ↦ (ap (λ (v : GroupPass). blinds_in (filter (of_job job) (added (view_at old g) v))) (ap (λ (r : GroupPasses). view_at r g) mends.is ∙ at_other old p.group g mends.pass other.1)
+        ∙ ap (λ ls. blinds_in (filter (of_job job) ls)) (drop-length (view_at old g).seen)) ∙ sym (for_other p.group g pads n other.0)
+    ]);
+  }
+    where
+      n : ℕ
+      n = total begins mends.before
 
   -- one behind the other
-  pub blinds_then : {a b c : Pads} {u v w : GroupPasses} → Blinds told job a b u v → Blinds told job b c v w → Blinds told job a c u w
+  pub blinds_then : {a b c : Pads} {u v w : GroupPasses} → Blinds job a b u v → Blinds job b c v w → Blinds job a c u w
   blinds_then {a} {b} {c} {u} {v} {w} one two = record {
-    parts = one.parts ++ two.parts;
-    goes = goes_then told job one.parts two.parts a b c u v w one.goes two.goes;
+    worked = row_work_in_parts (of_job job) u v w one.worked two.worked;
+    draws = one.draws ++ two.draws;
+    stream = two.stream ∙ (ap (λ p. behind p two.draws) one.stream ∙ sym (behind_append a one.draws two.draws));
+    blinds = λ alone g. (
+        let parts = row_alone_in_parts (of_job job) u v w one.worked two.worked alone in
+        by_more job u v w one.worked two.worked g
+        ∙ (ap₂ (λ (xs ys : List (List ℕ)). xs ++ ys) (one.blinds parts.0 g) (two.blinds parts.1 g ∙ ap (λ p. blinds_for g p two.draws) one.stream)
+        ∙ sym (for_append g a one.draws two.draws)));
   }

@@ -18,7 +18,7 @@ use Rattle.pot_shared.specs.Members.{kept_log, origin_of, all_logged}
 use Rattle.pot_shared.specs.declared.member.GroupOrigin.{GroupOrigin}
 use Rattle.pot_shared.specs.Ready.{GroupPass, GroupPasses, AreReady, IsOrigin, IsTableOf}
 use Rattle.pot_shared.specs.Calls.{CallAt}
-use Rattle.pot_shared.proofs.MemberLemmas.{grows_by}
+use Rattle.pot_shared.proofs.MemberLemmas.{GrowsBy, MoreBlinds, grows_by}
 
 pub set_twice : {X : Type 0} (xs : List X) (i : ℕ) (x y : X) → set (set xs i x) i y ≡ set xs i y
 set_twice [] i x y = refl
@@ -33,26 +33,30 @@ module _ {rack : Rack} {names : List TurnName} {row : GroupPasses} {at : ℕ} (r
   put_at v is = ap (λ (r : GroupPasses). view_at r at) is ∙ at_set row at v (let l = ready.of.1 in omega (arith, within, l))
 
   module _ {row1 : GroupPasses} {old new : GroupView} (took : row1 ≡ with_view row at (took_view (kept_log old) (view_at row at)))
-      (arrived : HasArrived old.first old.log old.shelves.numbers) where
+      (arrived : HasArrived old.first old.log old.shelves.numbers) {told : Type 0} (settled_old : IsSettled told old) (begun : MoreBlinds old new) where
+    by : {entries : List Entry} → Grows old new entries → GrowsBy old new begun.0 entries
+    by {entries} grows = grows_by old new begun.0 entries arrived settled_old.blinds begun.1 grows
+
     -- what is given back begins with what was taken
     pub grown : {entries : List Entry} → Grows old new entries → StartsWith (kept_log new) (view_at row1 at).seen
     grown {entries} grows =
         subst (λ (v : GroupPass). StartsWith (kept_log new) v.seen) (sym (put_at (took_view (kept_log old) (view_at row at)) took))
-        (all_logged new.shelves entries, (grows_by old new entries arrived grows).kept)
+        (all_logged new.shelves begun.0 entries, (by grows).kept)
 
     pub same_origin : {entries : List Entry} → Grows old new entries → Some (origin_of old) ≡ (view_at row at).origin → Some (origin_of new) ≡ (view_at row1 at).origin
     same_origin {entries} grows origin =
-        ap (λ o. Some o) (grows_by old new entries arrived grows).origin ∙ (origin ∙ sym (ap (λ (v : GroupPass). v.origin) (put_at (took_view (kept_log old) (view_at row at)) took)))
+        ap (λ o. Some o) (by grows).origin ∙ (origin ∙ sym (ap (λ (v : GroupPass). v.origin) (put_at (took_view (kept_log old) (view_at row at)) took)))
 
-    pub called : {told : Type 0} {row2 : GroupPasses} {R : GroupView → GroupView → List Entry → Type 0} → StartsWith (kept_log old) (view_at row at).seen
-        → Some (origin_of old) ≡ (view_at row at).origin → IsSettled told old → IsTable old.first → Made R old new → IsSettled told new
+    pub called : {row2 : GroupPasses} {R : GroupView → GroupView → List Entry → Type 0} → StartsWith (kept_log old) (view_at row at).seen
+        → Some (origin_of old) ≡ (view_at row at).origin → IsTable old.first → Made R old new → IsSettled told new
         → row2 ≡ with_view row1 at (left_view (kept_log new) (view_at row1 at)) → CallAt told R at row row2
-    called {told} {row2} {R} begins origin settled_old read made settled left =
+    called {row2} {R} begins origin read made settled left =
         let v = view_at row at in
         let entries = made.0 in
-        let grows = grows_by old new entries arrived made.1 in
+        let grows = by made.1 in
+        let its = all_logged new.shelves begun.0 entries in
         let transition = v.seen ++ begins.0 in
-        let one : kept_log new ≡ transition ++ all_logged new.shelves entries = grows.kept ∙ ap (λ w. w ++ all_logged new.shelves entries) begins.1 in
+        let one : kept_log new ≡ transition ++ its = grows.kept ∙ ap (λ w. w ++ its) begins.1 in
         let pass : GroupPass = left_view (kept_log new) (took_view (kept_log old) v) in
         let here : row2 ≡ with_view row1 at pass = left ∙ ap (λ (u : GroupPass). with_view row1 at (left_view (kept_log new) u)) (put_at (took_view (kept_log old) v) took) in
         let there : with_view row1 at pass ≡ with_view (with_view row at (took_view (kept_log old) v)) at pass = ap (λ (r : GroupPasses). with_view r at pass) took in
@@ -72,7 +76,9 @@ module _ {rack : Rack} {names : List TurnName} {row : GroupPasses} {at : ℕ} (r
             settled = settled;
             first = grows.first;
             log = grows.log;
-            turn = ap (λ l. left_view l (took_view (kept_log old) v)) one ∙ ap (λ l. left_view (transition ++ all_logged new.shelves entries) (took_view l v)) begins.1;
+            more = begun.0;
+            blinds = begun.1;
+            turn = ap (λ l. left_view l (took_view (kept_log old) v)) one ∙ ap (λ l. left_view (transition ++ its) (took_view l v)) begins.1;
             call = made.2;
           };
         }

@@ -27,7 +27,7 @@ use Rattle.pot_shared.specs.Members.{kept_log, origin_of, entries_of}
 use Rattle.pot_shared.specs.Ready.{GroupPass, GroupPasses, AreReady}
 use Rattle.pot_shared.specs.Catalogs.{IndexPass, IndexPasses, IsIndexReady, IsKept}
 use Rattle.pot_shared.specs.Sharing.{Ends}
-use Rattle.pot_shared.proofs.MemberLemmas.{entries_all, entries_append}
+use Rattle.pot_shared.proofs.MemberLemmas.{entries_kept, entries_append}
 use Rattle.pot_shared.specs.Works.{Known, known, gained}
 use Rattle.pot_shared.specs.Going.{AllOnlyWriters}
 use Rattle.pot_shared.specs.Groups.{IsFirstPass, AreServed, table_read, tables_read}
@@ -169,7 +169,7 @@ module _ {M : Type 0} (see : M → GroupView) (rack : Rack) (names turn : List T
   -- and without them
   pub closed_log : (n : ℕ) (m : M) → slice_get ms n ≡ Some m → (see m).log ≡ entries_of (view_at old.groups n).seen ++ gained old.groups groups n
   closed_log n m q =
-      sym (entries_all (see m).shelves (see m).log) ∙ (ap entries_of (closed_kept n m q)
+      sym (entries_kept (see m)) ∙ (ap entries_of (closed_kept n m q)
       ∙ entries_append (view_at old.groups n).seen (added (view_at old.groups n) (view_at groups n)))
 
   -- the openings brought no archive, so those that came are what the passes gained

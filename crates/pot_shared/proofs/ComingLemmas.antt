@@ -11,7 +11,7 @@ use Rattle.pot_machine.specs.declared.entry.Entry.{Entry}
 use Rattle.pot_group.specs.Arrivals.{arrival, arrivals}
 use Rattle.pot_shelves.specs.Shelves.{Shelves}
 use Rattle.pot_shared.specs.declared.member.Logged.{Logged}
-use Rattle.pot_shared.specs.Members.{all_logged, entries_of, logged_at, taking_at}
+use Rattle.pot_shared.specs.Members.{all_logged, entries_of, later_blinds, logged_at, taking_at}
 use Rattle.pot_shared.proofs.MemberLemmas.{marks_by}
 use Rattle.pot_shared.specs.Hands.{times, AreApart}
 use Rattle.pot_shared.specs.Coming.{AreMarkedBy, came_in, taking_of}
@@ -101,18 +101,21 @@ entry_in (e ∷ es) n has = ⊎_elim
     (λ (h : Contains (arrivals es) n). (let r = entry_in es n h in (r.0, (suc r.1.0, (let l = r.1.1 in omega (arith, l)), r.1.2), r.2)))
     (Contains-append_cases (arrival e) (arrivals es) n has)
 
-logged_in : (s : Shelves) (es : List Entry) (e : Entry) → Contains es e → Contains (all_logged s es) (logged_at s e)
-logged_in s [] e has = absurd (none_contained e has)
-logged_in s (x ∷ es) e (zero, lt, at) = (0, omega arith, ap (logged_at s) at)
-logged_in s (x ∷ es) e (suc k, lt, at) = (let r = logged_in s es e (k, omega (arith, lt), at) in (suc r.0, (let l = r.1 in omega (arith, l)), r.2))
+logged_in : (s : Shelves) (blinds : List (List ℕ)) (es : List Entry) (e : Entry) → Contains es e → (left : List (List ℕ)) × Contains (all_logged s blinds es) (logged_at s left e)
+logged_in s blinds [] e has = absurd (none_contained e has)
+logged_in s blinds (x ∷ es) e (zero, lt, at) = (blinds, (0, omega arith, ap (logged_at s blinds) at))
+logged_in s blinds (x ∷ es) e (suc k, lt, at) =
+    (let r = logged_in s (later_blinds blinds x) es e (k, omega (arith, lt), at) in (r.0, (suc r.1.0, (let l = r.1.1 in omega (arith, l)), r.1.2)))
 
 -- an archive that came behind an opening that brought none
-pub came_marked : (meant : ℕ → Meaning) (s : Shelves) (log : List Entry) (first gain : List Logged) → all_logged s log ≡ first ++ gain → arrivals (entries_of first) ≡ [] → AreMarkedBy meant gain
+pub came_marked : (meant : ℕ → Meaning) (s : Shelves) (blinds : List (List ℕ)) (log : List Entry) (first gain : List Logged) → all_logged s blinds log ≡ first ++ gain → arrivals (entries_of first) ≡ [] → AreMarkedBy meant gain
     → (n : ℕ) → Contains (arrivals log) n → taking_at s n ≡ taking_of (meant n)
-came_marked meant s log first gain parts none marked n has =
+came_marked meant s blinds log first gain parts none marked n has =
     let e = entry_in log n has in
-    let there : Contains (first ++ gain) (logged_at s e.0) = subst (λ ls. Contains ls (logged_at s e.0)) parts (logged_in s log e.0 e.1) in
+    let in_log = logged_in s blinds log e.0 e.1 in
+    let l = logged_at s in_log.0 e.0 in
+    let there : Contains (first ++ gain) l = subst (λ ls. Contains ls l) parts in_log.1 in
     let mark = marks_by s e.0 n e.2 in ⊎_elim
-    (λ (h : Contains first (logged_at s e.0)). absurd (none_contained n (subst (λ ns. Contains ns n) none (arrival_in first (logged_at s e.0) n h e.2))))
-    (λ (h : Contains gain (logged_at s e.0)). same_Some (taking_at s n) (taking_of (meant n)) (sym mark ∙ marked (logged_at s e.0) n h e.2))
-    (Contains-append_cases first gain (logged_at s e.0) there)
+    (λ (h : Contains first l). absurd (none_contained n (subst (λ ns. Contains ns n) none (arrival_in first l n h e.2))))
+    (λ (h : Contains gain l). same_Some (taking_at s n) (taking_of (meant n)) (sym mark ∙ marked l n h e.2))
+    (Contains-append_cases first gain l there)

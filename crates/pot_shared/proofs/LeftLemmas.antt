@@ -161,7 +161,7 @@ module _ {A M : Type 0} (told : Type 0) (meaning : A → Meaning) (parts : M →
       same_at (taking_at (plain meaning (parts m).shelves)) (λ x. taking_of (meant x)) (archives_in (parts m).first) k
       (taken t n (origin_of (view_of meaning (parts m))) (origin_is n m q)).0 h)
       (λ (h : Contains (arrivals (parts m).log) k).
-      came_marked meant (plain meaning (parts m).shelves) (parts m).log (view_at old.groups n).seen (added (view_at old.groups n) (view_at groups n))
+      came_marked meant (plain meaning (parts m).shelves) (view_of meaning (parts m)).blinds (parts m).log (view_at old.groups n).seen (added (view_at old.groups n) (view_at groups n))
       (closed_kept (λ x. view_of meaning (parts x)) rack names turn groups passes ms ended ready index_ready old s e n m q)
       (opened_none (λ x. view_of meaning (parts x)) rack names turn groups passes ms ended ready index_ready old s e n m q)
       (marks t (sole_all (λ x. view_of meaning (parts x)) rack names turn groups passes ms ended ready index_ready old s e) n

@@ -1,8 +1,8 @@
 pub mod Takings
 pub mod MemberLemmas
 pub mod CallLemmas
+pub mod CallBlinds
 pub mod UseLemmas
-pub mod PlaceLemmas
 pub mod CatalogLemmas
 pub mod IndexCallLemmas
 pub mod SharingLemmas
@@ -10,6 +10,9 @@ pub mod EndLemmas
 pub mod StartLemmas
 pub mod WorkLemmas
 pub mod AddLemmas
+pub mod DrawLemmas
+pub mod MendBlinds
+pub mod PlaceLemmas
 pub mod BlindLemmas
 pub mod FlightLemmas
 pub mod Times

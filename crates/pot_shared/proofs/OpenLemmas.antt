@@ -24,7 +24,7 @@ use Rattle.pot_shared.specs.Catalogs.{IndexPasses, IsIndexReady}
 use Rattle.pot_shared.specs.Sharing.{AreFirst}
 use Rattle.pot_shared.specs.Works.{Known}
 use Rattle.pot_replies.specs.Sessions.{ByNobody}
-use Rattle.pot_shared.proofs.MemberLemmas.{entries_all, same_on}
+use Rattle.pot_shared.proofs.MemberLemmas.{entries_kept, same_on}
 use Rattle.pot_shared.specs.Coming.{taking_of}
 use Rattle.pot_shared.specs.Groups.{AreStarted, AreOfRack, AreTakenFrom, AreFirstPasses, AreTakenAt, IsFirstPass, IsFirstTable, IsOpened, IsOpenedAt, RoseBy, had_by, table_read, tables_read}
 use Rattle.pot_shared.proofs.Lists.{same_maps, same_flat, all_at_place}
@@ -73,8 +73,8 @@ first_passes {M} see rack ms names row index origin of first are count one = rec
       origin = origin_of (see h.0);
       is = first n h.0 h.1;
       is_number = of.number n h.0 h.1;
-      none = ap arrivals (entries_all (see h.0).shelves (see h.0).log) ∙ of.none n h.0 h.1;
-      nobody = subst ByNobody (sym (entries_all (see h.0).shelves (see h.0).log)) (of.nobody n h.0 h.1);
+      none = ap arrivals (entries_kept (see h.0)) ∙ of.none n h.0 h.1;
+      nobody = subst ByNobody (sym (entries_kept (see h.0))) (of.nobody n h.0 h.1);
     }
 
 -- the tables that passes read are these, where each has the origin of the group at its place
@@ -107,7 +107,7 @@ taken_at {M} see ms names row meant first of long marked g o e = elim (cases_lt 
         marks = opened_at (see m).shelves;
         are = refl;
         opened = subst (λ l. IsOpened meant (RoseBy meant (see m).first (opened_at (see m).shelves)) (see m).first l)
-            (sym (ap (λ (v : GroupPass). entries_of v.seen) (first g m q) ∙ entries_all (see m).shelves (see m).log)) (marked g m q).opened;
+            (sym (ap (λ (v : GroupPass). entries_of v.seen) (first g m q) ∙ entries_kept (see m))) (marked g m q).opened;
       }),
     )
       where

@@ -1,31 +1,30 @@
 -- The mending of a place, step by step.
-use Rattle.std.proofs.Common.{◌≡◌, ◌<◌, ◌≤◌, ◌+◌, ◌-◌, ℕ, zero, suc, List, [], ◌∷◌, ◌++◌, length, length-append, refl, ap, sym, ◌∙◌, subst, arith}
-use Rattle.std.specs.Prelude.{All, Option, None, Some, IsSomeAnd, Result, Ok, Err}
-use Rattle.std.proofs.lemmas.List.{length-map, set-get_or}
+use Rattle.std.proofs.Common.{◌≡◌, ◌<◌, ◌≤◌, ◌+◌, ◌-◌, ℕ, zero, suc, List, [], ◌∷◌, ◌++◌, length, length-append, refl, ap, ap₂, sym, ◌∙◌, subst, arith}
+use Rattle.std.specs.Prelude.{All, filter}
+use Rattle.std.proofs.lemmas.List.{set-get_or}
+use lib.Seq.{drop-length}
 use Rattle.std.proofs.lemmas.List.Elements.{All-append, All-nil}
 use Rattle.pot_bytes.specs.declared.rack.Place.{Place}
 use Rattle.pot_machine.specs.declared.entry.Entry.{Entry}
-use Rattle.pot_machine.specs.declared.entry.Entry.TheVariants as entry
-use Rattle.pot_machine.specs.Table.{next_column}
-use Rattle.pot_steps.specs.declared.flight.Flight.{Flight}
-use Rattle.pot_steps.specs.Flights.{flight_in}
-use Rattle.pot_group.specs.declared.relaying.Advanced.{Advanced}
-use Rattle.pot_group.specs.declared.relaying.Advanced.TheVariants as advanced
-use Rattle.pot_group.specs.declared.relaying.AdvanceFault.{AdvanceFault}
-use Rattle.pot_group.specs.declared.relaying.AdvanceFault.TheVariants as failed
 use Rattle.pot_group.specs.declared.relaying.Mend.{Mend}
 use Rattle.pot_group.specs.declared.relaying.Mend.TheVariants as mend
 use Rattle.pot_group.specs.Group.{GroupView}
 use Rattle.pot_pads.specs.Pads.{Pads, moved, next_bytes}
 use Rattle.pot_turn.specs.declared.name.TurnName.{TurnName}
 use Rattle.pot_rows.specs.Rows.{AreOf, view_at, with_view}
+use Rattle.pot_rows.specs.Works.{AllIdle, RowWroteOnlyFor, RowOnlyWriterOf}
 use Rattle.pot_rows.proofs.RowLemmas.{at_set}
-use Rattle.pot_shared.specs.Members.{all_logged, logged_at}
+use Rattle.pot_rows.proofs.WorkLemmas.{row_work_in_parts, row_alone_in_parts}
 use Rattle.pot_shared.specs.Ready.{GroupPass, GroupPasses}
-use Rattle.pot_shared.specs.Calls.{CallAt, CallTurn}
-use Rattle.pot_group.specs.Calls.{MendCall, RelayEntries}
-use Rattle.pot_shared.specs.MendCalls.{GoesOn, MendTurns, MendsPlace, begins, blind_at, drawn, mends, passes, total}
+use Rattle.pot_shared.specs.Calls.{CallAt, CallTurn, marked}
+use Rattle.pot_group.specs.Calls.{MendCall}
+use Rattle.pot_shared.specs.MendCalls.{GoesOn, MendTurns, MendsPlace, begins, blind_at, drawn, mends, passes, stretches, total}
+use Rattle.pot_shared.specs.Works.{blinds_by, blinds_in, of_job}
 use Rattle.pot_shared.proofs.CallLemmas.{set_twice}
+use Rattle.pot_shared.proofs.DrawLemmas.{by_more}
+use Rattle.pot_shared.proofs.MendBlinds.{given_more, mend_blinds_are, mend_work, none_begun, relay_any}
+use Rattle.pot_shared.proofs.WorkLemmas.{row_stays}
+use Rattle.pot_shared.proofs.MemberLemmas.{all_long}
 
 zero_front : (n : ℕ) → n ≡ 0 + n
 zero_front n = omega arith
@@ -59,9 +58,11 @@ module _ (told : Type 0) (job : ℕ) (place : Place) (pads : Pads) where
     pub mended_is : mended ≡ total mends before
     pub passed_is : passed ≡ total passes before
     pub few : mended + passed ≤ length (view_at now place.group).seen
+    pub worked : RowWroteOnlyFor (of_job job) old now
+    pub blinds : RowOnlyWriterOf (of_job job) old now → blinds_by job old now place.group ≡ stretches pads (total begins before)
 
-  pub mending_none : (old : GroupPasses) (blind : List ℕ) (after : Pads) → blind ≡ next_bytes pads 1024 → after ≡ moved pads 1024 → IsMending old old blind after 0 0
-  mending_none old blind after blind_is stream = record {
+  pub mending_none : (old : GroupPasses) (blind : List ℕ) (after : Pads) → blind ≡ next_bytes pads 1024 → after ≡ moved pads 1024 → AllIdle old → IsMending old old blind after 0 0
+  mending_none old blind after blind_is stream idle = record {
     before = [];
     go_on = All-nil GoesOn;
     pass = view_at old place.group;
@@ -72,10 +73,12 @@ module _ (told : Type 0) (job : ℕ) (place : Place) (pads : Pads) where
     mended_is = refl;
     passed_is = refl;
     few = omega arith;
+    worked = row_stays (of_job job) old idle;
+    blinds = λ alone. ap (λ ls. blinds_in (filter (of_job job) ls)) (drop-length (view_at old place.group).seen);
   }
 
-  module _ (names : List TurnName) (old now next : GroupPasses) (blind : List ℕ) (after : Pads) (mended passed : ℕ) (of : AreOf names old) (within : place.group < length names)
-      (sofar : IsMending old now blind after mended passed) (answer : Mend) (call : CallAt told (Call blind answer) place.group now next) where
+  module _ (names : List TurnName) (old now next : GroupPasses) (blind : List ℕ) (after : Pads) (mended passed : ℕ) (of : AreOf names old) (of_now : AreOf names now) (idle : AllIdle now)
+      (within : place.group < length names) (sofar : IsMending old now blind after mended passed) (answer : Mend) (call : CallAt told (Call blind answer) place.group now next) where
     long : place.group < length old.views
     long = let l = of.1 in omega (arith, within, l)
 
@@ -92,6 +95,22 @@ module _ (told : Type 0) (job : ℕ) (place : Place) (pads : Pads) where
         (subst (λ k. CallTurn told (Call (blind_at pads k) answer) sofar.pass call.pass) (zero_front (total begins sofar.before))
         (subst (λ b. CallTurn told (Call b answer) sofar.pass call.pass) sofar.blind_is (subst (λ v. CallTurn told (Call blind answer) v call.pass) knows call.turn)))
 
+    long_now : place.group < length now.views
+    long_now = let l = of_now.1 in omega (arith, within, l)
+
+    its_work : RowWroteOnlyFor (of_job job) now next
+    its_work = mend_work told job place blind answer now next long_now call idle
+
+    all_work : RowWroteOnlyFor (of_job job) old next
+    all_work = row_work_in_parts (of_job job) old now next sofar.worked its_work
+
+    all_blinds : RowOnlyWriterOf (of_job job) old next → blinds_by job old next place.group ≡ stretches pads (total begins sofar.before + begins answer)
+    all_blinds alone =
+        let parts = row_alone_in_parts (of_job job) old now next sofar.worked its_work alone in
+        by_more job old now next sofar.worked its_work place.group
+        ∙ (ap₂ (λ (xs ys : List (List ℕ)). xs ++ ys) (sofar.blinds parts.0) (mend_blinds_are told job place blind answer now next long_now call parts.1)
+        ∙ given_more answer pads (total begins sofar.before) blind sofar.blind_is)
+
     pub mending_ends : (GoesOn answer → ⊥)
         → MendsPlace told job place pads after (record { end = answer; mended = mended; passed = passed }) old next
     mending_ends ends = record {
@@ -104,6 +123,8 @@ module _ (told : Type 0) (job : ℕ) (place : Place) (pads : Pads) where
       is = next_is;
       turns = all_turns;
       stream = sofar.stream;
+      worked = all_work;
+      blinds = λ alone. all_blinds alone ∙ ap (stretches pads) (none_begun answer (total begins sofar.before) ends);
     }
 
     total_more : (f : Mend → ℕ) (before : List Mend) → total f (before ++ answer ∷ []) ≡ total f before + f answer
@@ -128,6 +149,8 @@ module _ (told : Type 0) (job : ℕ) (place : Place) (pads : Pads) where
       mended_is = one_more mends mended mended1 sofar.mended_is mended_is;
       passed_is = one_more passes passed passed1 sofar.passed_is passed_is;
       few = few;
+      worked = all_work;
+      blinds = λ alone. all_blinds alone ∙ ap (stretches pads) (sym (total_more begins sofar.before));
     }
 
 -- an answer of another kind is the last
@@ -140,38 +163,16 @@ is_last _ not_began not_went not_mended not_passed on = on
 
 -- IT ENDS
 
-one_of : {X : Type 0} (o : Option X) (e : X → Entry) (entries : List Entry) → IsSomeAnd o (λ x. entries ≡ e x ∷ []) → length entries ≡ 1
-one_of None e entries h = absurd h
-one_of (Some x) e entries h = ap length h
-
-one_way : (o : Option Flight) (next : Flight → Option ℕ) (e : Flight → ℕ → Entry) (entries : List Entry) → IsSomeAnd o (λ f. IsSomeAnd (next f) (λ c. entries ≡ e f c ∷ [])) → length entries ≡ 1
-one_way None next e entries h = absurd h
-one_way (Some f) next e entries h = one_of (next f) (e f) entries h
-
-one_end : (o : Option Flight) (Q : Flight → Type 0) (e : Flight → Entry) (entries : List Entry) → IsSomeAnd o (λ f. Q f × (entries ≡ e f ∷ [])) → length entries ≡ 1
-one_end None Q e entries h = absurd h
-one_end (Some f) Q e entries h = ap length h.1
-
-relay_one : (job s : ℕ) (result : Result Advanced AdvanceFault) (old : GroupView) (entries : List Entry) → RelayEntries job s result old entries → length entries ≡ 1
-relay_one job s (Ok advanced.Hopped) old entries h = one_way (flight_in old.flights s) (λ f. next_column old.table f.relay) (λ f c. entry.Hop job s c) entries h
-relay_one job s (Ok advanced.Ended) old entries h = one_way (flight_in old.flights s) (λ f. next_column old.table f.relay) (λ f c. entry.GaveUp job s f.relay.target c) entries h
-relay_one job s (Ok advanced.Mended) old entries h = one_end (flight_in old.flights s) (λ f. next_column old.table f.relay ≡ None) (λ f. entry.Mended job s f.relay.target) entries h
-relay_one job s (Err (failed.Odd wanted found)) old entries h =
-    one_end (flight_in old.flights s) (λ f. next_column old.table f.relay ≡ None) (λ f. entry.Oddly job s f.relay.target found) entries h
-relay_one job s (Err (failed.Faulted column)) old entries h = ap length h
-relay_one job s (Err failed.LogFull) old entries h = absurd h
-relay_one job s (Err failed.Idle) old entries h = absurd h
-
 -- a step that goes on logs an entry
 one_entry : (told : Type 0) (job : ℕ) (place : Place) (blind : List ℕ) (answer : Mend) (old new : GroupView) (entries : List Entry) → GoesOn answer
     → MendCall told job place blind answer old new entries → length entries ≡ 1
 one_entry told job place blind mend.Began old new entries on call = ap length call.tells.0
 one_entry told job place blind mend.Extends old new entries on call =
-    let d = call.tells.1 in relay_one job d.0.stripe d.0.result old entries d.1
+    let d = call.tells.1 in relay_any job (λ es. length es ≡ 1) (λ e own not. refl) d.0.stripe d.0.result old entries d.1
 one_entry told job place blind mend.Mended old new entries on call =
-    let d = call.tells.1 in relay_one job d.0.stripe d.0.result old entries d.1
+    let d = call.tells.1 in relay_any job (λ es. length es ≡ 1) (λ e own not. refl) d.0.stripe d.0.result old entries d.1
 one_entry told job place blind mend.Passed old new entries on call =
-    let d = call.tells.1 in relay_one job d.0.stripe d.0.result old entries d.1
+    let d = call.tells.1 in relay_any job (λ es. length es ≡ 1) (λ e own not. refl) d.0.stripe d.0.result old entries d.1
 one_entry told job place blind _ old new entries on call = absurd on
 
 -- so the log that the pass has seen grows, which has a bound
@@ -184,13 +185,13 @@ grows told job place blind answer names now next of within on call =
     let long = of.1 in
     let here : place.group < length now.views = omega (arith, within, long) in
     let knows : view_at next place.group ≡ call.pass = ap (λ (r : GroupPasses). view_at r place.group) call.is ∙ at_set now place.group call.pass here in
-    let seen : length (view_at next place.group).seen ≡ length ((v.seen ++ t.others) ++ all_logged t.new.shelves t.entries) =
+    let seen : length (view_at next place.group).seen ≡ length ((v.seen ++ t.others) ++ marked t) =
     ap (λ (w : GroupPass). length w.seen) knows ∙ ap (λ (w : GroupPass). length w.seen) t.turn in
-    let parts = length-append (v.seen ++ t.others) (all_logged t.new.shelves t.entries) in
+    let parts = length-append (v.seen ++ t.others) (marked t) in
     let front = length-append v.seen t.others in
-    let own = length-map t.entries (logged_at t.new.shelves) in
+    let own = all_long t.new.shelves t.more t.entries in
     let one = one_entry told job place blind answer t.old t.new t.entries on t.call in
-    let transition = sym (ap length t.transition) ∙ length-map t.old.log (logged_at t.old.shelves) in
+    let transition = sym (ap length t.transition) ∙ all_long t.old.shelves t.old.blinds t.old.log in
     let log = ap length t.log ∙ length-append t.old.log t.entries in
     let bound = t.settled.bound in
     (omega (arith, seen, parts, front, own, one, transition, log, bound), omega (arith, seen, parts, front, own, one, transition, log, bound))
@@ -207,7 +208,7 @@ falls told job place blind answer names now next of within on call =
 -- A STEP AFTER WHICH THE MEND GOES ON
 
 module _ (told : Type 0) (job : ℕ) (place : Place) (pads : Pads) (names : List TurnName) (old now next : GroupPasses) (blind : List ℕ) (after : Pads) (mended passed : ℕ)
-    (of : AreOf names old) (of_now : AreOf names now) (within : place.group < length names) (sofar : IsMending told job place pads old now blind after mended passed) where
+    (of : AreOf names old) (of_now : AreOf names now) (idle : AllIdle now) (within : place.group < length names) (sofar : IsMending told job place pads old now blind after mended passed) where
   abbrev Step : Mend → Type 0
   Step answer = CallAt told (MendCall told job place blind answer) place.group now next
 
@@ -224,7 +225,7 @@ module _ (told : Type 0) (job : ℕ) (place : Place) (pads : Pads) (names : List
       let same : total begins sofar.before ≡ total begins sofar.before + begins answer = omega (arith, none) in
       let more = seen_more answer on call in
       let few = sofar.few in
-      mending_more told job place pads names old now next blind after mended passed of within sofar answer call blind after mended1 passed1 on
+      mending_more told job place pads names old now next blind after mended passed of of_now idle within sofar answer call blind after mended1 passed1 on
       (sofar.blind_is ∙ ap (blind_at pads) same) (sofar.stream ∙ ap (λ n. drawn pads (suc n)) same) mended_is passed_is (omega (arith, more, few, one))
 
   pub mending_went : Step mend.Extends → Sofar blind after mended passed
@@ -242,6 +243,6 @@ module _ (told : Type 0) (job : ℕ) (place : Place) (pads : Pads) (names : List
       let one : suc (total begins sofar.before) ≡ total begins sofar.before + 1 = omega arith in
       let more = seen_more mend.Began (tt) call in
       let few = sofar.few in
-      mending_more told job place pads names old now next blind after mended passed of within sofar mend.Began call blind1 after1 mended passed (tt)
+      mending_more told job place pads names old now next blind after mended passed of of_now idle within sofar mend.Began call blind1 after1 mended passed (tt)
       (blind_is ∙ (ap (λ p. next_bytes p 1024) sofar.stream ∙ ap (blind_at pads) one))
       (stream ∙ (ap (λ p. moved p 1024) sofar.stream ∙ ap (λ n. drawn pads (suc n)) one)) (omega arith) (omega arith) (omega (arith, more, few))

@@ -22,10 +22,10 @@ use Rattle.pot_rows.proofs.RowLemmas.{at_past}
 use Rattle.pot_rows.proofs.TieLemmas.{knows_same}
 use Rattle.pot_rows.proofs.WorkLemmas.{turn_is_work, own_in_turn_at, row_work_in_parts, row_alone_in_parts}
 use Rattle.pot_shared.specs.declared.member.Logged.{Logged}
-use Rattle.pot_shared.specs.Members.{logged_at, all_logged, entries_of}
+use Rattle.pot_shared.specs.Members.{later_blinds, logged_at, all_logged, entries_of}
 use Rattle.pot_shared.specs.Ready.{GroupPasses, AreReady}
 use Rattle.pot_shared.specs.Seen.{RowKnowsMore}
-use Rattle.pot_shared.specs.Calls.{CallAt}
+use Rattle.pot_shared.specs.Calls.{CallAt, marked}
 use Rattle.pot_shared.specs.Catalogs.{IndexPasses, IsIndexReady}
 use Rattle.pot_shared.specs.IndexCalls.{IndexCall}
 use Rattle.pot_shared.proofs.MemberLemmas.{entries_all}
@@ -48,9 +48,10 @@ module _ {E : Type 0} (test : E → Bool) where
   all_append [] ys p q = q
   all_append (x ∷ xs) ys p q = all_cons x (xs ++ ys) (p 0 x refl) (all_append xs ys (λ i e is. p (suc i) e is) q)
 
-all_marked : (job : ℕ) (s : Shelves) (es : List Entry) → AllOf (is_of job) es → AllOf (of_job job) (all_logged s es)
-all_marked job s [] h = all_none (of_job job)
-all_marked job s (e ∷ es) h = all_cons (of_job job) (logged_at s e) (all_logged s es) (h 0 e refl) (all_marked job s es (λ i x is. h (suc i) x is))
+all_marked : (job : ℕ) (s : Shelves) (blinds : List (List ℕ)) (es : List Entry) → AllOf (is_of job) es → AllOf (of_job job) (all_logged s blinds es)
+all_marked job s blinds [] h = all_none (of_job job)
+all_marked job s blinds (e ∷ es) h =
+    all_cons (of_job job) (logged_at s blinds e) (all_logged s (later_blinds blinds e) es) (h 0 e refl) (all_marked job s (later_blinds blinds e) es (λ i x is. h (suc i) x is))
 
 -- the job's own entries, with their marks or without
 own_at : (job : ℕ) (l : Logged) (ls : List Logged) → own job (entries_of ls) ≡ entries_of (filter (of_job job) ls)
@@ -72,21 +73,24 @@ module _ {E O : Type 0} (is_job : E → Bool) (row : PassRow E O) where
 
 module _ (told : Type 0) (job : ℕ) (R : GroupView → GroupView → List Entry → Type 0) (group : ℕ) (v w : GroupPasses) (within : group < length v.views)
     (call : CallAt told R group v w) (all : AllOf (is_of job) call.turn.entries) where
-  abbrev marked : List Logged
-  marked = all_logged call.turn.new.shelves call.turn.entries
+  abbrev its_marked : List Logged
+  its_marked = marked call.turn
 
-  its_turn : TurnAt call.turn.others marked v group w
+  all_its : AllOf (of_job job) its_marked
+  all_its = all_marked job call.turn.new.shelves call.turn.more call.turn.entries all
+
+  its_turn : TurnAt call.turn.others its_marked v group w
   its_turn = record { pass = call.pass; is = call.is; turn = call.turn.turn }
 
   pub group_work : AllIdle v → RowWroteOnlyFor (of_job job) v w
-  group_work idle = turn_is_work (of_job job) call.turn.others marked v w group within idle its_turn (all_marked job call.turn.new.shelves call.turn.entries all)
+  group_work idle = turn_is_work (of_job job) call.turn.others its_marked v w group within idle its_turn all_its
 
   module _ (alone : RowOnlyWriterOf (of_job job) v w) where
-    its_own : (filter (of_job job) (added (view_at v group) (view_at w group)) ≡ marked) × ((h : ℕ) → group ≢ h → filter (of_job job) (added (view_at v h) (view_at w h)) ≡ [])
-    its_own = own_in_turn_at (of_job job) call.turn.others marked v w group within its_turn (all_marked job call.turn.new.shelves call.turn.entries all) alone
+    pub its_own : (filter (of_job job) (added (view_at v group) (view_at w group)) ≡ its_marked) × ((h : ℕ) → group ≢ h → filter (of_job job) (added (view_at v h) (view_at w h)) ≡ [])
+    its_own = own_in_turn_at (of_job job) call.turn.others its_marked v w group within its_turn all_its alone
 
     pub group_own : own job (gained v w group) ≡ call.turn.entries
-    group_own = own_entries job (added (view_at v group) (view_at w group)) ∙ (ap entries_of its_own.0 ∙ entries_all call.turn.new.shelves call.turn.entries)
+    group_own = own_entries job (added (view_at v group) (view_at w group)) ∙ (ap entries_of its_own.0 ∙ entries_all call.turn.new.shelves call.turn.more call.turn.entries)
 
     pub group_else : (h : ℕ) → group ≢ h → own job (gained v w h) ≡ []
     group_else h ne = own_entries job (added (view_at v h) (view_at w h)) ∙ ap entries_of (its_own.1 h ne)

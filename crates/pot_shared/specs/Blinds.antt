@@ -1,16 +1,14 @@
--- Where the blinds of the relays come from that a job begins. No log has a blind: this is said of
--- the groups as the job's turns met them.
-use Rattle.std.specs.Prelude.{◌≡◌, ℕ, Bool, true, false, List, [], ◌∷◌, filter}
-use Rattle.pot_bytes.specs.declared.rack.Place.{Place}
+-- Where the blinds of the relays come from that a job begins: from the job's stream, one behind the
+-- other, and each once.
+use Rattle.std.specs.Prelude.{◌≡◌, ◌==◌, ◌++◌, ℕ, Bool, true, false, List, [], ◌∷◌, Option, Some}
+use Rattle.std.specs.Prelude.{None, filter, if◌then◌else◌}
 use Rattle.pot_machine.specs.declared.entry.Entry.{Entry}
 use Rattle.pot_machine.specs.declared.entry.Entry.TheVariants as entry
 use Rattle.pot_machine.specs.Logs.{own}
-use Rattle.pot_pads.specs.Pads.{Pads}
+use Rattle.pot_pads.specs.Pads.{Pads, moved, next_bytes}
 use Rattle.pot_rows.specs.Works.{RowWroteOnlyFor, RowOnlyWriterOf}
 use Rattle.pot_shared.specs.Ready.{GroupPasses}
-use Rattle.pot_shared.specs.MendCalls.{MendsPlace}
-use Rattle.pot_shared.specs.declared.mending.Mending.{Mending}
-use Rattle.pot_shared.specs.Works.{of_job, gained}
+use Rattle.pot_shared.specs.Works.{of_job, gained, blinds_by}
 
 abbrev pub is_begin : Entry → Bool
 is_begin (entry.Begin job s c) = true
@@ -22,28 +20,32 @@ pub record BeganNone (job : ℕ) (old new : GroupPasses) : Type 0 where
   pub none : RowOnlyWriterOf (of_job job) old new
       → (g : ℕ) → filter is_begin (own job (gained old new g)) ≡ []
 
--- A part of a job's work: it began no relay, or mended a place.
-pub data Part : Type 0 where
-  Quiet : Part
-  Mends : (place : Place) → (result : Mending) → Part
+-- Where a blind went that was drawn: to a relay of this group, or to none.
+abbrev pub Draw : Type 0
+Draw = Option ℕ
 
--- In a part that began no relay the stream stays; in the mending of a place each relay has the next
--- blind of the stream.
-abbrev pub Goes : Type 0 → ℕ → Part → Pads → Pads → GroupPasses → GroupPasses → Type 0
-Goes told job Quiet pads after old new = (after ≡ pads) × BeganNone job old new
-Goes told job (Mends place result) pads after old new =
-    MendsPlace told job place pads after result old new
+-- the blind, if it went to this group
+abbrev pub given_to : ℕ → Draw → List ℕ → List (List ℕ)
+given_to g None blind = []
+given_to g (Some group) blind = if group == g then blind ∷ [] else []
 
--- part after part, each with the stream as the one before left it
-abbrev pub GoesOver : Type 0 → ℕ → List Part → Pads → Pads → GroupPasses → GroupPasses → Type 0
-GoesOver told job [] pads after old new = (after ≡ pads) × (new ≡ old)
-GoesOver told job (part ∷ parts) pads after old new =
-    (mid : Pads) × (now : GroupPasses) × Goes told job part pads mid old now
-    × GoesOver told job parts mid after now new
+-- the blinds that went to a group, where each draw takes the next 1,024 bytes of the stream
+abbrev pub blinds_for : ℕ → Pads → List Draw → List (List ℕ)
+blinds_for g pads [] = []
+blinds_for g pads (draw ∷ draws) =
+    given_to g draw (next_bytes pads 1024) ++ blinds_for g (moved pads 1024) draws
 
--- Each relay that the job began has the next blind of the stream, which stands behind the last one
--- that was drawn in the end.
-pub record Blinds (told : Type 0) (job : ℕ) (pads after : Pads)
-    (old new : GroupPasses) : Type 0 where
-  pub parts : List Part
-  pub goes : GoesOver told job parts pads after old new
+-- and the stream behind them
+abbrev pub behind : Pads → List Draw → Pads
+behind pads [] = pads
+behind pads (draw ∷ draws) = behind (moved pads 1024) draws
+
+-- The blinds of the relays that the job began are stretches of 1,024 bytes of the stream, in their
+-- order, each for one relay or for none; and the stream stands behind the last one. That is so
+-- where nobody else logged an entry of the job.
+pub record Blinds (job : ℕ) (pads after : Pads) (old new : GroupPasses) : Type 0 where
+  pub worked : RowWroteOnlyFor (of_job job) old new
+  pub draws : List Draw
+  pub stream : after ≡ behind pads draws
+  pub blinds : RowOnlyWriterOf (of_job job) old new
+      → (g : ℕ) → blinds_by job old new g ≡ blinds_for g pads draws

@@ -17,7 +17,8 @@ use Rattle.pot_shared.specs.Members.{kept_log, origin_of, all_logged}
 use Rattle.pot_shared.specs.Ready.{GroupPass, GroupPasses}
 
 -- One turn of a pass: the group was so when it came, others having logged some entries since; the
--- call added these entries, and is what `R` says. `told` is whether archives tell what they hold.
+-- call added these entries and the blinds of the relays that they began, and is what `R` says.
+-- `told` is whether archives tell what they hold.
 pub record CallTurn (told : Type 0) (R : GroupView → GroupView → List Entry → Type 0)
     (v w : GroupPass) : Type 0 where
   pub old : GroupView
@@ -31,8 +32,15 @@ pub record CallTurn (told : Type 0) (R : GroupView → GroupView → List Entry 
   pub settled : IsSettled told new
   pub first : new.first ≡ old.first
   pub log : new.log ≡ old.log ++ entries
-  pub turn : IsTurn others (all_logged new.shelves entries) v w
+  pub more : List (List ℕ)
+  pub blinds : new.blinds ≡ old.blinds ++ more
+  pub turn : IsTurn others (all_logged new.shelves more entries) v w
   pub call : R old new entries
+
+-- what passes see of the entries that it added
+abbrev pub marked : {told : Type 0} {R : GroupView → GroupView → List Entry → Type 0}
+    → {v w : GroupPass} → CallTurn told R v w → List Logged
+marked turn = all_logged turn.new.shelves turn.more turn.entries
 
 -- the pass of one group had a turn, and the passes of the others are as they were
 pub record CallAt (told : Type 0) (R : GroupView → GroupView → List Entry → Type 0) (group : ℕ)

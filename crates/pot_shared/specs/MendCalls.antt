@@ -6,9 +6,11 @@ use Rattle.pot_group.specs.declared.relaying.Mend.TheVariants as mend
 use Rattle.pot_group.specs.Calls.{MendCall}
 use Rattle.pot_pads.specs.Pads.{Pads, moved, next_bytes}
 use Rattle.pot_rows.specs.Rows.{view_at, with_view}
+use Rattle.pot_rows.specs.Works.{RowWroteOnlyFor, RowOnlyWriterOf}
 use Rattle.pot_shared.specs.declared.mending.Mending.{Mending}
 use Rattle.pot_shared.specs.Ready.{GroupPass, GroupPasses}
 use Rattle.pot_shared.specs.Calls.{CallTurn}
+use Rattle.pot_shared.specs.Works.{of_job, blinds_by}
 
 -- the stream after so many blinds were drawn from it, and the next one
 abbrev pub drawn : Pads → ℕ → Pads
@@ -17,6 +19,11 @@ drawn pads (suc n) = moved (drawn pads n) 1024
 
 abbrev pub blind_at : Pads → ℕ → List ℕ
 blind_at pads n = next_bytes (drawn pads n) 1024
+
+-- so many blinds in a row: each is the next 1,024 bytes of the stream
+abbrev pub stretches : Pads → ℕ → List (List ℕ)
+stretches pads zero = []
+stretches pads (suc n) = next_bytes pads 1024 ∷ stretches (moved pads 1024) n
 
 -- the answers after which a mend of the place goes on
 abbrev pub GoesOn : Mend → Type 0
@@ -53,7 +60,8 @@ MendTurns told job place pads n (answer ∷ more) v w =
     × MendTurns told job place pads (n + begins answer) more u w
 
 -- The place was mended step by step, up to the first answer after which that does not go on. A
--- blind was drawn before the first step, and one after each relay that began.
+-- blind was drawn before the first step, and one after each relay that began. Where nobody else
+-- logged an entry of the job, the blinds in the log that it gained are those in their order.
 pub record MendsPlace (told : Type 0) (job : ℕ) (place : Place) (pads after : Pads)
     (result : Mending) (old new : GroupPasses) : Type 0 where
   pub before : List Mend
@@ -66,3 +74,6 @@ pub record MendsPlace (told : Type 0) (job : ℕ) (place : Place) (pads after : 
   pub turns : MendTurns told job place pads 0 (before ++ result.end ∷ [])
       (view_at old place.group) pass
   pub stream : after ≡ drawn pads (suc (total begins before))
+  pub worked : RowWroteOnlyFor (of_job job) old new
+  pub blinds : RowOnlyWriterOf (of_job job) old new
+      → blinds_by job old new place.group ≡ stretches pads (total begins before)

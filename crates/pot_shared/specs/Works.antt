@@ -1,7 +1,9 @@
 -- What a job did with the passes of a vault, and the section of the logs that it made.
-use Rattle.std.specs.Prelude.{◌≡◌, ◌<◌, ℕ, Bool, List, [], IfSome, length}
+use Rattle.std.specs.Prelude.{◌≡◌, ◌<◌, ◌++◌, ℕ, Bool, List, [], ◌∷◌, Option, Some, IfSome, length}
+use Rattle.std.specs.Prelude.{filter}
 use Rattle.pot_bytes.specs.declared.rack.Rack.{Rack}
 use Rattle.pot_machine.specs.declared.entry.Entry.{Entry}
+use Rattle.pot_machine.specs.declared.entry.Entry.TheVariants.{Begin}
 use Rattle.pot_machine.specs.Logs.{is_of, own}
 use Rattle.pot_index.specs.Entries as index
 use Rattle.pot_worked.specs.WroteOnlyFor.{added}
@@ -21,6 +23,21 @@ of_job job l = is_of job l.entry
 -- what the log of each group gained
 abbrev pub gained : GroupPasses → GroupPasses → ℕ → List Entry
 gained old new g = entries_of (added (view_at old g) (view_at new g))
+
+-- the blind of the relay that an entry began, if it began one
+abbrev pub blind_with : Option (List ℕ) → Entry → List (List ℕ)
+blind_with (Some blind) (Begin job s c) = blind ∷ []
+blind_with _ _ = []
+
+-- the blinds of the relays that entries began, in order
+abbrev pub blinds_in : List Logged → List (List ℕ)
+blinds_in [] = []
+blinds_in (l ∷ log) = blind_with l.blind l.entry ++ blinds_in log
+
+-- those of the relays that the job began, of what the log of a group gained
+abbrev pub blinds_by : ℕ → GroupPasses → GroupPasses → ℕ → List (List ℕ)
+blinds_by job old new g =
+    blinds_in (filter (of_job job) (added (view_at old g) (view_at new g)))
 
 -- The passes saw more and logged nothing: that is work of any job, and of one that nobody else
 -- worked for, no entry came.

@@ -15,11 +15,12 @@ pub struct Taking {
     pub heard: LinkedList<(u32, Block)>,
 }
 
-/// An entry as passes see it: with what the archive that it brought meant at its taking. No value
-/// of it is made.
+/// An entry as passes see it: with what the archive that it brought meant at its taking, and with
+/// the blind of the relay that it began. No value of it is made.
 pub struct Logged {
     pub entry: Entry,
     pub taken: Option<Taking>,
+    pub blind: Option<Block>,
 }
 
 /// What never changes of a group: its number, the table that was read, what the archives that it

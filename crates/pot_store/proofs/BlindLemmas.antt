@@ -134,6 +134,6 @@ module _ (rack : Rack) (geometry : Geometry) (job : ℕ) where
 -- a place was mended, and looked at once more
 module _ {told : Type 0} {job : ℕ} where
   pub blinds_again : {p : Place} {c : Came} {pads after : Pads} {result : Mending} {old mid new : GroupPasses} → MendsPlace told job p pads after result old mid → LooksAgain job p c mid new
-      → Blinds told job pads after old new
+      → Blinds job pads after old new
   blinds_again {p} {c} {pads} {after} {result} {old} {mid} {new} mends again =
       blinds_then (blinds_mends mends) (blinds_quiet (none_look job p again.first mid new again.looks))

@@ -26,12 +26,12 @@ use Rattle.pot_rows.specs.Works.{RowWroteOnlyFor, RowOnlyWriterOf, AllIdle}
 use Rattle.pot_rows.proofs.RowLemmas.{at_set, at_other}
 use Rattle.pot_rows.proofs.WorkLemmas.{row_work_in_parts, row_alone_in_parts}
 use Rattle.pot_replies.specs.Stores.{Placed, Puts, place_of, in_group}
-use Rattle.pot_shared.specs.Members.{entries_of, all_logged}
+use Rattle.pot_shared.specs.Members.{entries_of}
 use Rattle.pot_shared.specs.Ready.{GroupPass, GroupPasses, AreReady, IsTableOf}
 use Rattle.pot_shared.specs.Seen.{SeesPut}
 use Rattle.pot_group.specs.Calls.{PutCall}
-use Rattle.pot_shared.specs.Calls.{CallAt}
-use Rattle.pot_shared.proofs.MemberLemmas.{entries_all}
+use Rattle.pot_shared.specs.Calls.{CallAt, marked}
+use Rattle.pot_shared.proofs.MemberLemmas.{entries_all, entries_kept}
 use Rattle.pot_shared.proofs.CallLemmas.{is_origin, is_table}
 use Rattle.pot_shared.proofs.CatalogLemmas.{sees_more}
 use Rattle.pot_shared.specs.Works.{of_job, gained}
@@ -64,24 +64,22 @@ module _ (told : Type 0) (R : GroupView → GroupView → List Entry → Type 0)
 
   -- the log that was met, and the log that was left
   pub met_log : call.turn.old.log ≡ entries_of (view_at v group).seen ++ entries_of call.turn.others
-  met_log = sym (entries_all call.turn.old.shelves call.turn.old.log) ∙ (ap entries_of call.turn.transition ∙ map-append (λ l. l.entry) (view_at v group).seen call.turn.others)
+  met_log = sym (entries_kept call.turn.old) ∙ (ap entries_of call.turn.transition ∙ map-append (λ l. l.entry) (view_at v group).seen call.turn.others)
 
   pub left_log : entries_of (view_at w group).seen ≡ call.turn.new.log
   left_log =
-      let marked = all_logged call.turn.new.shelves call.turn.entries in
-      let seen : (view_at w group).seen ≡ ((view_at v group).seen ++ call.turn.others) ++ marked = ap (λ (x : GroupPass). x.seen) called_here ∙ ap (λ (x : GroupPass). x.seen) call.turn.turn in
+      let seen : (view_at w group).seen ≡ ((view_at v group).seen ++ call.turn.others) ++ marked call.turn = ap (λ (x : GroupPass). x.seen) called_here ∙ ap (λ (x : GroupPass). x.seen) call.turn.turn in
       ap entries_of seen
-      ∙ (map-append (λ l. l.entry) ((view_at v group).seen ++ call.turn.others) marked
-      ∙ (ap (λ s. s ++ entries_of marked) (sym (ap entries_of call.turn.transition) ∙ entries_all call.turn.old.shelves call.turn.old.log)
-      ∙ (ap (λ s. call.turn.old.log ++ s) (entries_all call.turn.new.shelves call.turn.entries) ∙ sym call.turn.log)))
+      ∙ (map-append (λ l. l.entry) ((view_at v group).seen ++ call.turn.others) (marked call.turn)
+      ∙ (ap (λ s. s ++ entries_of (marked call.turn)) (sym (ap entries_of call.turn.transition) ∙ entries_kept call.turn.old)
+      ∙ (ap (λ s. call.turn.old.log ++ s) (entries_all call.turn.new.shelves call.turn.more call.turn.entries) ∙ sym call.turn.log)))
 
   -- each pass has seen more
   pub called_grown : (g : ℕ) → StartsWith (view_at w g).seen (view_at v g).seen
   called_grown g = ⊎_elim
       (λ (e : group ≡ g).
-      let marked = all_logged call.turn.new.shelves call.turn.entries in
-      let seen : (view_at w group).seen ≡ ((view_at v group).seen ++ call.turn.others) ++ marked = ap (λ (x : GroupPass). x.seen) called_here ∙ ap (λ (x : GroupPass). x.seen) call.turn.turn in
-      subst (λ i. StartsWith (view_at w i).seen (view_at v i).seen) e (call.turn.others ++ marked, seen ∙ append_assoc (view_at v group).seen call.turn.others marked))
+      let seen : (view_at w group).seen ≡ ((view_at v group).seen ++ call.turn.others) ++ marked call.turn = ap (λ (x : GroupPass). x.seen) called_here ∙ ap (λ (x : GroupPass). x.seen) call.turn.turn in
+      subst (λ i. StartsWith (view_at w i).seen (view_at v i).seen) e (call.turn.others ++ marked call.turn, seen ∙ append_assoc (view_at v group).seen call.turn.others (marked call.turn)))
       (λ (ne : group ≢ g). subst (λ (x : GroupPass). StartsWith x.seen (view_at v g).seen) (sym (called_there g ne)) ([], sym (append-nil (view_at v g).seen)))
       (cases_eq group g)
 

@@ -23,11 +23,11 @@ use Rattle.pot_rows.specs.Works.{AllIdle, RowWroteOnlyFor}
 use Rattle.pot_rows.proofs.RowLemmas.{at_set}
 use Rattle.pot_replies.specs.Fetches.{SeenAs}
 use Rattle.pot_shared.specs.declared.member.Logged.{Logged}
-use Rattle.pot_shared.specs.Members.{all_logged, entries_of, origin_of}
+use Rattle.pot_shared.specs.Members.{entries_of, origin_of}
 use Rattle.pot_shared.specs.Ready.{GroupPass, GroupPasses}
 use Rattle.pot_group.specs.Calls.{LookCall}
-use Rattle.pot_shared.specs.Calls.{CallAt}
-use Rattle.pot_shared.proofs.MemberLemmas.{entries_all}
+use Rattle.pot_shared.specs.Calls.{CallAt, marked}
+use Rattle.pot_shared.proofs.MemberLemmas.{entries_all, entries_kept}
 use Rattle.pot_shared.specs.Adds.{Adds}
 use Rattle.pot_shared.specs.Works.{gained, of_job}
 use Rattle.pot_store.specs.Visits.{Came, IsFullLog, IsReadAt, IsVisit, LooksOnce, MayVisit, ReadsBlock, look_logs}
@@ -38,22 +38,22 @@ use Rattle.pot_shared.proofs.AddLemmas.{adds_call, left_long, seen_parts}
 -- ONE LOCKED CALL
 
 module _ (told : Type 0) (R : GroupView → GroupView → List Entry → Type 0) (group : ℕ) (v w : GroupPasses) (within : group < length v.views) (call : CallAt told R group v w) where
-  abbrev marked : List Logged
-  marked = all_logged call.turn.new.shelves call.turn.entries
+  abbrev its_marked : List Logged
+  its_marked = marked call.turn
 
-  its_seen : (view_at w group).seen ≡ ((view_at v group).seen ++ call.turn.others) ++ marked
+  its_seen : (view_at w group).seen ≡ ((view_at v group).seen ++ call.turn.others) ++ its_marked
   its_seen = ap (λ (r : GroupPasses). (view_at r group).seen) call.is ∙ (ap (λ (x : GroupPass). x.seen) (at_set v group call.pass within) ∙ ap (λ (x : GroupPass). x.seen) call.turn.turn)
 
   -- the log that it met
   pub log_met : call.turn.old.log ≡ entries_of (view_at v group).seen ++ entries_of call.turn.others
-  log_met = sym (entries_all call.turn.old.shelves call.turn.old.log) ∙ (ap entries_of call.turn.transition ∙ map-append (λ l. l.entry) (view_at v group).seen call.turn.others)
+  log_met = sym (entries_kept call.turn.old) ∙ (ap entries_of call.turn.transition ∙ map-append (λ l. l.entry) (view_at v group).seen call.turn.others)
 
   -- what the pass of the group gained
   pub gained_by : gained v w group ≡ entries_of call.turn.others ++ call.turn.entries
   gained_by =
-      ap entries_of (behind (view_at w group).seen (view_at v group).seen (call.turn.others ++ marked) (its_seen ∙ append_assoc (view_at v group).seen call.turn.others marked))
-      ∙ (map-append (λ l. l.entry) call.turn.others marked
-      ∙ ap (λ es. entries_of call.turn.others ++ es) (entries_all call.turn.new.shelves call.turn.entries))
+      ap entries_of (behind (view_at w group).seen (view_at v group).seen (call.turn.others ++ its_marked) (its_seen ∙ append_assoc (view_at v group).seen call.turn.others its_marked))
+      ∙ (map-append (λ l. l.entry) call.turn.others its_marked
+      ∙ ap (λ es. entries_of call.turn.others ++ es) (entries_all call.turn.new.shelves call.turn.more call.turn.entries))
 
 -- WHAT A LOOK COMES TO
 

@@ -1,6 +1,6 @@
 //! A file is split anew: it is fetched, the blocks of its new split are put, and its record gets
 //! that split.
-ghost use Rattle.std.specs.Prelude.{◌≡◌, ◌<◌, ◌≤◌, true, length, IsTrue};
+ghost use Rattle.std.specs.Prelude.{◌≡◌, ◌<◌, ◌≤◌, true, length};
 ghost use Rattle.pot_object.specs.Pieces.{longest};
 ghost use Rattle.pot_index.specs.Fits.{FitsGeometry};
 ghost use Rattle.pot_rows.specs.Works.{RowWroteOnlyFor};
@@ -188,7 +188,7 @@ pub fn renew_file<A: Archive, R: Wait>(
     ensures worked { WroteForItsJob connection.old connection.new }
     ensures says { TellsIfOnlyWriter (λ b s w. s.mends ≡ true → AreFilled s → RenewsFrom s pads geometry.now b.job
         → RenewRow s b.job name.now geometry.now result w) connection.old connection.new }
-    ensures blinds { Blinds (IsTrue A.account.tells) (job_of connection.old) blinds.old blinds.new
+    ensures blinds { Blinds (job_of connection.old) blinds.old blinds.new
         (knows connection.old).groups (knows connection.new).groups }
 {
     let kept = match connection.find(name) {

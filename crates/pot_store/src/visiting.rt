@@ -1,5 +1,5 @@
 //! The visits of a fetch to a place.
-ghost use Rattle.std.specs.Prelude.{◌≡◌, ◌<◌, IsTrue};
+ghost use Rattle.std.specs.Prelude.{◌≡◌, ◌<◌};
 ghost use Rattle.pot_shared.specs.Callers.{AreReadyFor, HasSlotFor};
 ghost use Rattle.pot_store.specs.Visits.{came_to, LooksAgain, LooksOnce, MendsOn};
 ghost use Rattle.pot_shared.specs.Blinds.{Blinds};
@@ -89,7 +89,7 @@ pub fn mend<A: Archive, R: Wait>(
     ensures index { passes.new.index ≡ passes.old.index }
     ensures mends { MendsOn caller.now.job place (came_to result block.new)
         passes.old.groups passes.new.groups }
-    ensures blinds { Blinds (IsTrue A.account.tells) caller.now.job pads.old pads.new
+    ensures blinds { Blinds caller.now.job pads.old pads.new
         passes.old.groups passes.new.groups }
 {
     let Caller { rt, vault, job, .. } = *caller;

@@ -16,11 +16,11 @@ pub returns-in_default-clause-says : goal.returns-in_default-clause-says
 returns-in_default-clause-says g c = λ start moves. moves_leave _ _ _ _ _ _ _ _ moves
 
 pub take_back-requires-clause-its : goal.take_back-requires-clause-its
-take_back-requires-clause-its g c = worked_have (common_of c.args.crew.now.shared) _ _ _ _ _ _ (lines_worked_are _ _ _ _ _ _ _ _ c.in-Ok-work_lines.ensures.worked)
+take_back-requires-clause-its g c = worked_have (common_of c.args.crew.now.shared) _ _ _ _ _ _ (lines_worked_are _ _ _ _ _ _ _ c.in-Ok-work_lines.ensures.worked)
 
 pub take_back-requires-clause-room : goal.take_back-requires-clause-room
 take_back-requires-clause-room g c =
-    let n = worked_count (common_of c.args.crew.now.shared) _ _ _ _ _ _ (lines_worked_are _ _ _ _ _ _ _ _ c.in-Ok-work_lines.ensures.worked) in
+    let n = worked_count (common_of c.args.crew.now.shared) _ _ _ _ _ _ (lines_worked_are _ _ _ _ _ _ _ c.in-Ok-work_lines.ensures.worked) in
     let none = ap length c.in-Ok.ensures.items in
     omega (arith, n, none, c.in-Ok.ensures.capacity)
 
@@ -40,7 +40,7 @@ returns-then-take_back-clause-went g c =
       can_v = c.in-Ok-work_lines.ensures.can;
       can_x = c.take_back.ensures.can;
       parts = c.requires.parts;
-      worked = (lines_worked_are _ _ _ _ _ _ _ _ c.in-Ok-work_lines.ensures.worked);
+      worked = (lines_worked_are _ _ _ _ _ _ _ c.in-Ok-work_lines.ensures.worked);
       joined = c.take_back.ensures.joined;
     })
 
@@ -51,7 +51,7 @@ returns-then-take_back-clause-stays g c =
       can_v = c.in-Ok-work_lines.ensures.can;
       can_x = c.take_back.ensures.can;
       parts = c.requires.parts;
-      worked = (lines_worked_are _ _ _ _ _ _ _ _ c.in-Ok-work_lines.ensures.worked);
+      worked = (lines_worked_are _ _ _ _ _ _ _ c.in-Ok-work_lines.ensures.worked);
       joined = c.take_back.ensures.joined;
     })
 
@@ -62,7 +62,7 @@ returns-then-take_back-clause-says g c =
       can_v = c.in-Ok-work_lines.ensures.can;
       can_x = c.take_back.ensures.can;
       parts = c.requires.parts;
-      worked = (lines_worked_are _ _ _ _ _ _ _ _ c.in-Ok-work_lines.ensures.worked);
+      worked = (lines_worked_are _ _ _ _ _ _ _ c.in-Ok-work_lines.ensures.worked);
       joined = c.take_back.ensures.joined;
     }) _ (c.take_back.ensures.replies ∙ ap (λ l. l ++ replies_in c.in-Ok-work_lines.jobs.items) c.in-Ok.ensures.items) (sym c.take_back.ensures.whole ∙ c.if-take_back.true)
 
@@ -73,7 +73,7 @@ returns-then-take_back-clause-none g c =
       can_v = c.in-Ok-work_lines.ensures.can;
       can_x = c.take_back.ensures.can;
       parts = c.requires.parts;
-      worked = (lines_worked_are _ _ _ _ _ _ _ _ c.in-Ok-work_lines.ensures.worked);
+      worked = (lines_worked_are _ _ _ _ _ _ _ c.in-Ok-work_lines.ensures.worked);
       joined = c.take_back.ensures.joined;
     }) c.requires.filled
 
@@ -84,7 +84,7 @@ returns-else-take_back-clause-went g c =
       can_v = c.in-Ok-work_lines.ensures.can;
       can_x = c.take_back.ensures.can;
       parts = c.requires.parts;
-      worked = (lines_worked_are _ _ _ _ _ _ _ _ c.in-Ok-work_lines.ensures.worked);
+      worked = (lines_worked_are _ _ _ _ _ _ _ c.in-Ok-work_lines.ensures.worked);
       joined = c.take_back.ensures.joined;
     })
 
@@ -95,7 +95,7 @@ returns-else-take_back-clause-stays g c =
       can_v = c.in-Ok-work_lines.ensures.can;
       can_x = c.take_back.ensures.can;
       parts = c.requires.parts;
-      worked = (lines_worked_are _ _ _ _ _ _ _ _ c.in-Ok-work_lines.ensures.worked);
+      worked = (lines_worked_are _ _ _ _ _ _ _ c.in-Ok-work_lines.ensures.worked);
       joined = c.take_back.ensures.joined;
     })
 
@@ -106,7 +106,7 @@ returns-else-take_back-clause-says g c = λ start moves.
       can_v = c.in-Ok-work_lines.ensures.can;
       can_x = c.take_back.ensures.can;
       parts = c.requires.parts;
-      worked = (lines_worked_are _ _ _ _ _ _ _ _ c.in-Ok-work_lines.ensures.worked);
+      worked = (lines_worked_are _ _ _ _ _ _ _ c.in-Ok-work_lines.ensures.worked);
       joined = c.take_back.ensures.joined;
     }) start moves
 
@@ -117,7 +117,7 @@ returns-else-take_back-clause-none g c =
       can_v = c.in-Ok-work_lines.ensures.can;
       can_x = c.take_back.ensures.can;
       parts = c.requires.parts;
-      worked = (lines_worked_are _ _ _ _ _ _ _ _ c.in-Ok-work_lines.ensures.worked);
+      worked = (lines_worked_are _ _ _ _ _ _ _ c.in-Ok-work_lines.ensures.worked);
       joined = c.take_back.ensures.joined;
     }) c.requires.filled
 

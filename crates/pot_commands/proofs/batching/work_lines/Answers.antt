@@ -17,4 +17,4 @@ pub together-requires-clause-fresh : goal.together-requires-clause-fresh
 together-requires-clause-fresh g c κs within = given_fresh _ _ _ _ _ c.in-Ok.ensures.shared.0.given
 
 pub returns-in-Ok-clause-worked : goal.returns-in-Ok-clause-worked
-returns-in-Ok-clause-worked g c = lines_worked _ _ _ _ _ _ _ _ _ c.in-Ok.ensures.shared.0 c.in-Ok.ensures.shared.1 c.together.ensures.worked c.together.ensures.refused
+returns-in-Ok-clause-worked g c = lines_worked _ _ _ _ _ _ _ _ c.in-Ok.ensures.shared.0 c.in-Ok.ensures.shared.1 c.together.ensures.worked c.together.ensures.refused

@@ -1,8 +1,8 @@
-use Rattle.std.proofs.Common.{IsTrue, refl, ◌∙◌}
+use Rattle.std.proofs.Common.{IsTrue, ◌<◌, refl, ◌∙◌, arith}
 use Rattle.std.specs.Prelude.{Ok, Err}
 use Rattle.pot_group.specs.declared.copying.MoveStep.TheVariants as moved
 use Rattle.pot_group.specs.declared.copying.MoveFault.TheVariants as failed
-use Rattle.pot_mend.proofs.MoveLemmas.{falls_passed, moving_copied, moving_none, moving_passed, says_ended, says_faulted, says_full, says_idle, worked_on}
+use Rattle.pot_mend.proofs.MoveLemmas.{copied_fits, falls_copied, falls_passed, moving_copied, moving_none, moving_passed, says_ended, says_faulted, says_full, says_idle, worked_on}
 use Rattle.pot_mend.proofs.moving.migrate.Goals as goal
 
 pub steps-init : goal.steps-init
@@ -15,6 +15,16 @@ steps-preserved-in-Ok-Copied g c = (
   moving_copied (IsTrue g.A.Archive.account.tells) c.args.job c.args.group c.args.column c.steps.copied c.args.vault.now.rack c.args.vault.now.groups c.args.passes.now.groups c.steps.passes.groups
       c.move_step.new.passes.groups c.steps.invariant.0 c.requires.group c.steps.invariant.2 (rw c.in-Ok-Copied.field-0-is at c.in-Ok-Copied.ensures.call),
 )
+
+pub overflow_add-copied : goal.overflow_add-copied
+overflow_add-copied g c =
+    let fits : c.steps.copied < 262144 = copied_fits (IsTrue g.A.Archive.account.tells) c.args.job c.args.group c.args.column c.steps.copied c.args.vault.now.rack c.args.vault.now.groups c.args.passes.now.groups c.steps.passes.groups
+    c.move_step.new.passes.groups c.steps.invariant.0 c.requires.group c.steps.invariant.2 (rw c.in-Ok-Copied.field-0-is at c.in-Ok-Copied.ensures.call) in
+    omega (arith, fits)
+
+pub steps-smaller-in-Ok-Copied : goal.steps-smaller-in-Ok-Copied
+steps-smaller-in-Ok-Copied g c = falls_copied (IsTrue g.A.Archive.account.tells) c.args.job c.args.group c.args.column c.steps.copied c.args.vault.now.rack c.args.vault.now.groups c.args.passes.now.groups c.steps.passes.groups
+    c.move_step.new.passes.groups c.steps.invariant.0 c.requires.group c.steps.invariant.2 (rw c.in-Ok-Copied.field-0-is at c.in-Ok-Copied.ensures.call)
 
 pub steps-smaller : goal.steps-smaller
 steps-smaller g c = falls_passed (IsTrue g.A.Archive.account.tells) c.args.job c.args.group c.args.column c.steps.copied c.args.vault.now.rack c.args.vault.now.groups c.args.passes.now.groups c.steps.passes.groups

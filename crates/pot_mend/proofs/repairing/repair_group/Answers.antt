@@ -12,7 +12,7 @@ places-init g c = (
   c.requires.ready,
   refl,
   repairing_begin c.args.job c.args.group c.args.pads.now c.args.passes.now.groups c.requires.ready.idle,
-  blinds_none,
+  blinds_none c.requires.ready.idle,
   refl,
 )
 

@@ -14,7 +14,7 @@ loop-piece-init g c = (
   file_begin c.args.caller.now.job c.args.kept.now c.args.bytes.now.items c.args.passes.now.groups c.requires.ready.idle c.requires.none,
   c.requires.file_room,
   let none = ap length c.requires.none in let long = c.args.bytes.now.ok.0 in omega (arith, none, long),
-  blinds_none,
+  blinds_none c.requires.ready.idle,
 )
 
 pub returns-in_err-object-clause-read : goal.returns-in_err-object-clause-read

@@ -1,4 +1,4 @@
-use Rattle.std.proofs.Common.{◌≡◌, ◌≤◌, ◌*◌, IsTrue, vec_len, vec_capacity}
+use Rattle.std.proofs.Common.{◌≡◌, ◌≤◌, ◌*◌, vec_len, vec_capacity}
 use Rattle.pot_object.specs.Pieces.{pieces_of}
 use Rattle.pot_shared.specs.Ready.{AreReady}
 use Rattle.pot_shared.specs.Blinds.{Blinds}
@@ -11,4 +11,4 @@ invariant-loop-piece g l =
     × (l.passes.index ≡ l.fn.passes.index)
     × FileSofar l.caller.job l.kept l.piece l.bytes.items l.fn.passes.groups l.passes.groups
     × (pieces_of l.kept.length * 864 ≤ vec_capacity l.bytes) × (vec_len l.bytes ≡ l.piece * 864)
-    × Blinds (IsTrue g.A.Archive.account.tells) l.caller.job l.fn.pads l.pads l.fn.passes.groups l.passes.groups
+    × Blinds l.caller.job l.fn.pads l.pads l.fn.passes.groups l.passes.groups

@@ -1,4 +1,4 @@
-use Rattle.std.proofs.Common.{◌≡◌, ◌≢◌, ◌+◌, ℕ, IsTrue, [], refl, ap, sym, ◌∙◌, subst, arith, slice_index_or}
+use Rattle.std.proofs.Common.{◌≡◌, ◌≢◌, ◌+◌, ℕ, [], refl, ap, sym, ◌∙◌, subst, arith, slice_index_or}
 use Rattle.pot_bytes.specs.declared.rack.Place.{Place}
 use Rattle.pot_bytes.specs.Rack.{no_place}
 use Rattle.pot_pads.specs.Pads.{Pads}
@@ -24,7 +24,7 @@ not_gone_there : (s : Points) (x : ℕ) → slice_index_or s.known.items x point
 not_gone_there s x other = not_gone (slice_index_or s.known.items x point.Unknown) (slice_index_or s.blocks.items x []) other
 
 pub loop-x-init : goal.loop-x-init
-loop-x-init g c = (c.requires.ready, refl, λ first tried. tried, blinds_none)
+loop-x-init g c = (c.requires.ready, refl, λ first tried. tried, blinds_none c.requires.ready.idle)
 
 pub count-requires : goal.count-requires
 count-requires g c = (current_fits c.args.caller.now.vault.now.rack c.args.kept.now c.requires.fits).geometry.limits.shards
@@ -80,8 +80,8 @@ loop-x-preserved g c =
                 (mends_step c.args.caller.now.job kept.places c.args.from n need x points first c.loop-x.passes.groups (c.loop-x.invariant.2 first tried)
                 w.mend_point.new.points p w.mend_point.new.passes.groups (fragment_apart c.args.caller.now.vault.now.rack kept c.requires.fits c.args.from c.requires.fragment) c.loop-x-test.true at
                 (λ e. c.if-count-kept.false (c.count.ensures ∙ e)) (is_gone points x (sym c.known.ensures ∙ w.in-Gone.is)) w.if-not-mend_point.ensures.read)),
-            subst (λ (s : Pads). Blinds (IsTrue g.A.Archive.account.tells) c.args.caller.now.job c.args.pads.now s c.args.passes.now.groups c.match-known.passes.groups) (sym w.pads-is)
-                (subst (λ r. Blinds (IsTrue g.A.Archive.account.tells) c.args.caller.now.job c.args.pads.now w.mend_point.new.pads c.args.passes.now.groups r.groups) (sym w.passes-is)
+            subst (λ (s : Pads). Blinds c.args.caller.now.job c.args.pads.now s c.args.passes.now.groups c.match-known.passes.groups) (sym w.pads-is)
+                (subst (λ r. Blinds c.args.caller.now.job c.args.pads.now w.mend_point.new.pads c.args.passes.now.groups r.groups) (sym w.passes-is)
                 (blinds_then c.loop-x.invariant.3 w.mend_point.ensures.blinds)),
           )
       | in_default w ↦ (
@@ -92,8 +92,8 @@ loop-x-preserved g c =
             (subst (λ r. PointsTried c.args.caller.now.job kept.places c.args.from n need (x + 1) points first r.groups) (sym w.passes-is)
             (mends_pass c.args.caller.now.job kept.places c.args.from n need x points first c.loop-x.passes.groups (c.loop-x.invariant.2 first tried)
             (not_gone_there points x (λ e. w.in_default.not-Gone (c.known.ensures ∙ e))))),
-        subst (λ (s : Pads). Blinds (IsTrue g.A.Archive.account.tells) c.args.caller.now.job c.args.pads.now s c.args.passes.now.groups c.match-known.passes.groups) (sym w.pads-is)
-            (subst (λ r. Blinds (IsTrue g.A.Archive.account.tells) c.args.caller.now.job c.args.pads.now c.loop-x.pads c.args.passes.now.groups r.groups) (sym w.passes-is) c.loop-x.invariant.3),
+        subst (λ (s : Pads). Blinds c.args.caller.now.job c.args.pads.now s c.args.passes.now.groups c.match-known.passes.groups) (sym w.pads-is)
+            (subst (λ r. Blinds c.args.caller.now.job c.args.pads.now c.loop-x.pads c.args.passes.now.groups r.groups) (sym w.passes-is) c.loop-x.invariant.3),
       )
     ]
 

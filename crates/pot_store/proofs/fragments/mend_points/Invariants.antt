@@ -1,4 +1,4 @@
-use Rattle.std.proofs.Common.{◌≡◌, IsTrue}
+use Rattle.std.proofs.Common.{◌≡◌}
 use Rattle.pot_shared.specs.Ready.{GroupPasses, AreReady}
 use Rattle.pot_shared.specs.Blinds.{Blinds}
 use Rattle.pot_store.specs.Reads.{PointsTried}
@@ -10,4 +10,4 @@ invariant-loop-x g l =
     × (l.passes.index ≡ l.fn.passes.index)
     × ((first : GroupPasses) → PointsTried l.caller.job l.kept.places l.from l.kept.geometry.shards l.kept.geometry.need 0 l.fn.points first l.fn.passes.groups
     → PointsTried l.caller.job l.kept.places l.from l.kept.geometry.shards l.kept.geometry.need l.x l.points first l.passes.groups)
-    × Blinds (IsTrue g.A.Archive.account.tells) l.caller.job l.fn.pads l.pads l.fn.passes.groups l.passes.groups
+    × Blinds l.caller.job l.fn.pads l.pads l.fn.passes.groups l.passes.groups

@@ -10,7 +10,7 @@ loop-fragment-init g c = (
   refl,
   piece_begin c.args.caller.now.job c.args.kept.now c.args.piece c.clear.new.self.items c.args.passes.now.groups c.requires.ready.idle c.clear.ensures.items,
   c.clear.ensures.len,
-  blinds_none,
+  blinds_none c.requires.ready.idle,
 )
 
 pub returns-in_err-read_fragment-clause-read : goal.returns-in_err-read_fragment-clause-read

@@ -1,4 +1,4 @@
-use Rattle.std.proofs.Common.{◌≡◌, ◌*◌, IsTrue, vec_len}
+use Rattle.std.proofs.Common.{◌≡◌, ◌*◌, vec_len}
 use Rattle.pot_shared.specs.Ready.{AreReady}
 use Rattle.pot_shared.specs.Blinds.{Blinds}
 use Rattle.pot_store.proofs.PieceLemmas.{PieceSofar}
@@ -10,4 +10,4 @@ invariant-loop-fragment g l =
     × (l.passes.index ≡ l.fn.passes.index)
     × PieceSofar l.caller.job l.kept l.piece l.fragment l.rooms.fragments.items l.fn.passes.groups l.passes.groups
     × (vec_len l.rooms.fragments ≡ l.fragment * 928)
-    × Blinds (IsTrue g.A.Archive.account.tells) l.caller.job l.fn.pads l.pads l.fn.passes.groups l.passes.groups
+    × Blinds l.caller.job l.fn.pads l.pads l.fn.passes.groups l.passes.groups

@@ -4,22 +4,28 @@ use Rattle.pot_shared.proofs.PlaceLemmas.{falls, grows, is_last, mending_began, 
 use Rattle.pot_shared.proofs.vault.Vault.mend_place.Goals as goal
 
 pub steps-init : goal.steps-init
-steps-init g c = (c.requires.ready, refl, mending_none _ _ _ _ _ _ _ c.draw_blind-blind.ensures.block c.draw_blind-blind.ensures.stream)
+steps-init g c = (c.requires.ready, refl, mending_none _ _ _ _ _ _ _ c.draw_blind-blind.ensures.block c.draw_blind-blind.ensures.stream c.requires.ready.idle)
 
 pub steps-preserved-in-Began : goal.steps-preserved-in-Began
 steps-preserved-in-Began g c = (
   c.in-Began.ensures.ready,
   c.in-Began.ensures.index ∙ c.steps.invariant.1,
-  mending_began _ _ _ _ _ _ _ _ _ _ _ _ c.requires.ready.of c.steps.invariant.0.of c.requires.place.0 c.steps.invariant.2 _ _ c.in-Began.ensures.call
+  mending_began _ _ _ _ _ _ _ _ _ _ _ _ c.requires.ready.of c.steps.invariant.0.of c.steps.invariant.0.idle c.requires.place.0 c.steps.invariant.2 _ _ c.in-Began.ensures.call
       c.draw_blind-blind-in-Began.ensures.block c.draw_blind-blind-in-Began.ensures.stream,
 )
+
+pub steps-smaller-in-Began : goal.steps-smaller-in-Began
+steps-smaller-in-Began g c = falls _ _ _ _ mend.Began _ _ _ c.steps.invariant.0.of c.requires.place.0 (tt) c.in-Began.ensures.call
 
 pub steps-preserved-in-Extends : goal.steps-preserved-in-Extends
 steps-preserved-in-Extends g c = (
   c.in-Extends.ensures.ready,
   c.in-Extends.ensures.index ∙ c.steps.invariant.1,
-  mending_went _ _ _ _ _ _ _ _ _ _ _ _ c.requires.ready.of c.steps.invariant.0.of c.requires.place.0 c.steps.invariant.2 c.in-Extends.ensures.call,
+  mending_went _ _ _ _ _ _ _ _ _ _ _ _ c.requires.ready.of c.steps.invariant.0.of c.steps.invariant.0.idle c.requires.place.0 c.steps.invariant.2 c.in-Extends.ensures.call,
 )
+
+pub steps-smaller-in-Extends : goal.steps-smaller-in-Extends
+steps-smaller-in-Extends g c = falls _ _ _ _ mend.Extends _ _ _ c.steps.invariant.0.of c.requires.place.0 (tt) c.in-Extends.ensures.call
 
 pub overflow_add-mended : goal.overflow_add-mended
 overflow_add-mended g c =
@@ -33,8 +39,11 @@ pub steps-preserved-in-Mended : goal.steps-preserved-in-Mended
 steps-preserved-in-Mended g c = (
   c.in-Mended.ensures.ready,
   c.in-Mended.ensures.index ∙ c.steps.invariant.1,
-  mending_mended _ _ _ _ _ _ _ _ _ _ _ _ c.requires.ready.of c.steps.invariant.0.of c.requires.place.0 c.steps.invariant.2 _ refl c.in-Mended.ensures.call,
+  mending_mended _ _ _ _ _ _ _ _ _ _ _ _ c.requires.ready.of c.steps.invariant.0.of c.steps.invariant.0.idle c.requires.place.0 c.steps.invariant.2 _ refl c.in-Mended.ensures.call,
 )
+
+pub steps-smaller-in-Mended : goal.steps-smaller-in-Mended
+steps-smaller-in-Mended g c = falls _ _ _ _ mend.Mended _ _ _ c.steps.invariant.0.of c.requires.place.0 (tt) c.in-Mended.ensures.call
 
 pub overflow_add-passed : goal.overflow_add-passed
 overflow_add-passed g c =
@@ -51,13 +60,13 @@ pub steps-preserved : goal.steps-preserved
 steps-preserved g c = (
   c.in-Passed.ensures.ready,
   c.in-Passed.ensures.index ∙ c.steps.invariant.1,
-  mending_passed _ _ _ _ _ _ _ _ _ _ _ _ c.requires.ready.of c.steps.invariant.0.of c.requires.place.0 c.steps.invariant.2 _ refl c.in-Passed.ensures.call,
+  mending_passed _ _ _ _ _ _ _ _ _ _ _ _ c.requires.ready.of c.steps.invariant.0.of c.steps.invariant.0.idle c.requires.place.0 c.steps.invariant.2 _ refl c.in-Passed.ensures.call,
 )
 
 pub returns-in_default : goal.returns-in_default
 returns-in_default g c = record {
   ready = c.mend_step.ensures.ready;
   index = c.mend_step.ensures.index ∙ c.steps.invariant.1;
-  mended = mending_ends _ _ _ _ _ _ _ _ _ _ _ _ c.requires.ready.of c.requires.place.0 c.steps.invariant.2 _ c.mend_step.ensures.call
+  mended = mending_ends _ _ _ _ _ _ _ _ _ _ _ _ c.requires.ready.of c.steps.invariant.0.of c.steps.invariant.0.idle c.requires.place.0 c.steps.invariant.2 _ c.mend_step.ensures.call
       (is_last c.mend_step.result c.in_default.not-Began c.in_default.not-Extends c.in_default.not-Mended c.in_default.not-Passed);
 }

@@ -1,23 +1,25 @@
 use Rattle.pot_shared.proofs.CallLemmas.{grown, same_origin, called, ready_again}
+use Rattle.pot_shared.proofs.CallBlinds.{put_more}
 use Rattle.pot_shared.proofs.vault.Vault.put.Goals as goal
 
 pub leave-requires-clause-grown : goal.leave-requires-clause-grown
 leave-requires-clause-grown g c =
     let ready = rw (← c.passes.view_is) at c.requires.ready in
     let puts = rw (c.expect.ensures, c.block.ensures) at c.put-answer.ensures.puts in
-    grown ready c.requires.group c.enter-member.ensures.took c.logged-before.ensures.arrived puts.1
+    grown ready c.requires.group c.enter-member.ensures.took c.logged-before.ensures.arrived c.logged-before.ensures.settled (put_more puts) puts.1
 
 pub leave-requires-clause-origin : goal.leave-requires-clause-origin
 leave-requires-clause-origin g c =
     let ready = rw (← c.passes.view_is) at c.requires.ready in
     let puts = rw (c.expect.ensures, c.block.ensures) at c.put-answer.ensures.puts in
-    same_origin ready c.requires.group c.enter-member.ensures.took c.logged-before.ensures.arrived puts.1 c.enter-member.ensures.origin
+    same_origin ready c.requires.group c.enter-member.ensures.took c.logged-before.ensures.arrived c.logged-before.ensures.settled (put_more puts) puts.1 c.enter-member.ensures.origin
 
 pub returns-clause-call : goal.returns-clause-call
 returns-clause-call g c =
     let ready = rw (← c.passes.view_is) at c.requires.ready in
-    rw (← c.passes.view_is) (called ready c.requires.group c.enter-member.ensures.took c.logged-before.ensures.arrived c.enter-member.ensures.begins c.enter-member.ensures.origin
-    c.logged-before.ensures.settled c.logged-before.ensures.first (rw (c.expect.ensures, c.block.ensures) at c.put-answer.ensures.puts) c.logged-after.ensures.settled c.leave.ensures.left)
+    let puts = rw (c.expect.ensures, c.block.ensures) at c.put-answer.ensures.puts in
+    rw (← c.passes.view_is) (called ready c.requires.group c.enter-member.ensures.took c.logged-before.ensures.arrived c.logged-before.ensures.settled (put_more puts) c.enter-member.ensures.begins c.enter-member.ensures.origin
+    c.logged-before.ensures.first puts c.logged-after.ensures.settled c.leave.ensures.left)
 
 pub returns-clause-ready : goal.returns-clause-ready
 returns-clause-ready g c = ready_again c.requires.ready c.requires.group (returns-clause-call g c)
