@@ -103,7 +103,7 @@ no_fault_in : (held : Option (List ℕ)) (v : Contents) → IsReadAs held v → 
 no_fault_in held v (others, are, reads) e other bytes is refused = other (reads (Err e) (subst (λ b. AnswersImage b (Err e)) (same_Some bytes others (sym is ∙ are)) refused))
 
 not_bare : (held : Option (List ℕ)) (v : Contents) → IsReadAs held v → held ≡ None → ⊥
-not_bare held v (bytes, are, reads) none = cc (none, are)
+not_bare held v (bytes, are, reads) none = absurd (cc (none, are))
 
 -- NO REFUSAL OF WHAT IS IN ITS GRAMMAR
 

@@ -370,7 +370,7 @@ none_held : (seed : List ℕ) (seen : Seen) → seen.desk.before.held ≡ None �
 none_held seed seen none (inl c) = absurd (unheld c.read c.was_held)
   where
     unheld : (i : Image) → HoldsImage seen.desk.before.held i → ⊥
-    unheld i (bytes, is, answers) = cc (none, is)
+    unheld i (bytes, is, answers) = absurd (cc (none, is))
 none_held seed seen none (inr (inl same)) = same ∙ none
 none_held seed seen none (inr (inr (inl gone))) = gone
 none_held seed seen none (inr (inr (inr (i, (bytes, is, answers), left)))) = absurd (cc (none, is))

@@ -25,7 +25,7 @@ use Rattle.pot_index.specs.declared.record.Record.{Record}
 use Rattle.pot_index.specs.declared.record.Split.{Split}
 use Rattle.pot_index.specs.Entries.{bringing, entries}
 use Rattle.pot_index.specs.Fits.{FitsRack, FitsSplit}
-use Rattle.pot_index.specs.Index.{AreRead, Legal, LegalEntry, Names, Replays, after, after_entry, names_read}
+use Rattle.pot_index.specs.Index.{AreNames, AreRead, Ascends, Legal, LegalEntry, Names, Replays, after, after_entry, names_read}
 use Rattle.pot_index.specs.Records.{current_of, splits_of}
 use Rattle.pot_index.proofs.IndexLemmas.{started_is}
 use Rattle.pot_index.proofs.NamesKept.{replay_keeps}
@@ -39,7 +39,7 @@ use Rattle.pot_shared.proofs.Lists.{all_at_place, at_same}
 
 -- LISTS
 
-each_of : {X : Type 0} (P : X → Type 0) (xs : List X) → ((k : ℕ) (x : X) → slice_get xs k ≡ Some x → P x) → All P xs
+pub each_of : {X : Type 0} (P : X → Type 0) (xs : List X) → ((k : ℕ) (x : X) → slice_get xs k ≡ Some x → P x) → All P xs
 each_of P xs each = λ k d l. (let x = element_at xs k l in subst P (sym (at_same xs k d x.0 x.1)) (each k x.0 x.1))
 
 contained_of : {X : Type 0} (P : X → Type 0) (xs : List X) → ((x : X) → Contains xs x → P x) → All P xs
@@ -152,7 +152,7 @@ module _ (told : Type 0) (meant : ℕ → Meaning) (Has : Shelves → ℕ → Ty
   records_left rs story log left limits read records put few room whole = record {
     read = record {
       few = (let a = few_published rack (names_read rs) records.ended story records.replays in let b = ap length records.is in let c = ap length records.is_log in let d = length-map story (λ x. x.entry) in omega (arith, a, b, c, d, few, room));
-      ascends = subst (λ l. _) (sym records.is) kept.ascends;
+      ascends = subst Ascends (sym records.is) kept.ascends;
       fits = subst (All (FitsRack rack)) (sym records.is) kept.fits;
     };
     each = each_of (IsRecordOver us) left (λ k r q. record {
@@ -162,7 +162,7 @@ module _ (told : Type 0) (meant : ℕ → Meaning) (Has : Shelves → ℕ → Ty
     });
   }
     where
-      kept : _
+      kept : AreNames rack records.ended
       kept = replay_keeps rack (names_read rs) records.ended story (started_is rack rs limits read.read).names records.replays
 
       stands : (xs : List Record) (k : ℕ) (r : Record) → slice_get xs k ≡ Some r → Contains xs r
