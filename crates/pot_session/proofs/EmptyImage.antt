@@ -31,8 +31,8 @@ use Rattle.pot_session.proofs.LeftArchives.{archives_of}
 -- NUMBERS IN A ROW
 
 range_append : (a m n : ℕ) → range_with_len a (m + n) ≡ range_with_len a m ++ range_with_len (a + m) n
-range_append a zero n = ap (λ b. range_with_len b n) (let e : a ≡ a + 0 = omega arith in e)
-range_append a (suc m) n = ap (λ l. a ∷ l) (range_append (a + 1) m n ∙ ap (λ b. range_with_len (a + 1) m ++ range_with_len b n) (let e : a + 1 + m ≡ a + suc m = omega arith in e))
+range_append a zero n = ap (λ k. range_with_len a k) (let e : 0 + n ≡ n = omega arith in e) ∙ ap (λ b. range_with_len b n) (let e : a ≡ a + 0 = omega arith in e)
+range_append a (suc m) n = ap (λ k. range_with_len a k) (let e : suc m + n ≡ suc (m + n) = omega arith in e) ∙ ap (λ l. a ∷ l) (range_append (a + 1) m n ∙ ap (λ b. range_with_len (a + 1) m ++ range_with_len b n) (let e : a + 1 + m ≡ a + suc m = omega arith in e))
 
 below_none : (a k n : ℕ) → n < a → times n (range_with_len a k) ≡ 0
 below_none a zero n l = refl
@@ -61,11 +61,14 @@ homes : (ns : List ℕ) → flat_map homes_of (map column_home ns) ≡ ns
 homes [] = refl
 homes (n ∷ ns) = ap (λ l. n ∷ l) (homes ns)
 
+none_of : (w : ℕ) → 0 * w ≡ 0
+none_of w = grind arith
+
 abbrev wide : Rack → ℕ
 wide rack = rack.columns + rack.parity
 
 rows : (rack : Rack) (a k : ℕ) → flat_map archives_in (map (empty_table rack) (range_with_len a k)) ≡ range_with_len (a * wide rack) (k * wide rack)
-rows rack a zero = refl
+rows rack a zero = sym (ap (range_with_len (a * wide rack)) (none_of (wide rack)))
 rows rack a (suc k) =
     ap (λ l. l ++ flat_map archives_in (map (empty_table rack) (range_with_len (a + 1) k))) (homes (range_with_len (a * wide rack) (wide rack)))
     ∙ (ap (λ l. range_with_len (a * wide rack) (wide rack) ++ l) (rows rack (a + 1) k ∙ ap (λ b. range_with_len b (k * wide rack)) (next a (wide rack)))
@@ -157,7 +160,7 @@ empty_image rack is = record {
       archives = archives_of (flat_map archives_in (map (empty_table rack) (range_with_len 0 rack.groups))) (range_with_len (0 * wide rack) (rack.groups * wide rack))
           (λ n. (let e = ap (times n) (rows rack 0 rack.groups) in omega (arith, e))) (λ n. range_once (0 * wide rack) (rack.groups * wide rack) n)
           (λ n l. past_none (0 * wide rack) (rack.groups * wide rack) n
-          (let a = mul-le-mul_right (wide rack) is.groups.1 in let b = is.columns.1 in let c = is.parity.1 in let z : 0 * wide rack ≡ 0 = none (wide rack) in omega (arith, a, b, c, z, l)));
+          (let a = mul-le-mul_right (wide rack) is.groups.1 in let b = is.columns.1 in let c = is.parity.1 in let z : 0 * wide rack ≡ 0 = none_of (wide rack) in omega (arith, a, b, c, z, l)));
     };
     records = record { read = record { few = omega arith; ascends = none_ascend; fits = All-nil _ }; each = All-nil _ };
     logs = length-replicate rack.groups [];
@@ -167,6 +170,3 @@ empty_image rack is = record {
   index_log = record { count = omega arith; fits = All-nil FitsIndexEntry };
   short = (let a = image_long (empty_contents rack) in let b = fields_few rack is in omega (arith, a, b));
 }
-  where
-    none : (w : ℕ) → 0 * w ≡ 0
-    none w = grind arith

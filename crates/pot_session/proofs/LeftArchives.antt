@@ -3,6 +3,7 @@ use Rattle.std.proofs.Common.{◌≡◌, ◌≢◌, ◌≤◌, ◌<◌, ◌+◌,
 use Rattle.std.specs.Prelude.{All, Contains, IfSome, IsTrue, Option, Some, None, slice_get, flat_map}
 use Rattle.std.specs.List.{AllByRecursion, IsDistinct}
 use Rattle.std.proofs.lemmas.Bool.{ne_eqb}
+use Rattle.std.proofs.lemmas.Bool.Decides.{eqb_tells}
 use Rattle.std.proofs.lemmas.List.Elements.{All-nil, All-cons, Contains-append_left, Contains-append_right}
 use Rattle.std.proofs.lemmas.Option.{slice_get_within}
 use Rattle.pot_machine.specs.declared.column.Column.{Column}
@@ -20,7 +21,7 @@ use Rattle.pot_shared.specs.Groups.{AreLow}
 use Rattle.pot_shared.specs.Hands.{times, AreApart}
 use Rattle.pot_shared.specs.Leaving.{LeavesGroup, LeaveGroups, still}
 use Rattle.pot_shared.proofs.Lists.{at_same}
-use Rattle.pot_shared.proofs.Times.{contains_times, times-append, times_contains, times_here, times_there}
+use Rattle.pot_shared.proofs.Times.{contains_times, one_if, times-append, times_contains, times_here, times_there}
 use Rattle.pot_session.specs.Losses.{all_had}
 use Rattle.pot_session.proofs.StripeLemmas.{column_had}
 
@@ -31,51 +32,55 @@ none_in_all h n [] none = refl
 none_in_all h n (m ∷ ms) none =
     (let a = times-append n (h m) (flat_map h ms) in let b = none 0 m refl in let c = none_in_all h n ms (λ i x q. none (suc i) x q) in omega (arith, a, b, c))
 
+zero_or : (k : ℕ) → (k ≡ 0) ⊎ (1 ≤ k)
+zero_or zero = inl refl
+zero_or (suc k) = inr (omega arith)
+
+none_by : (k : ℕ) → (1 ≤ k → ⊥) → k ≡ 0
+none_by zero never = refl
+none_by (suc k) never = absurd (never (omega arith))
+
+once_step : (a r w : ℕ) → a ≤ 1 → r ≤ 1 → w ≡ a + r → (1 ≤ a → r ≡ 0) → w ≤ 1
+once_step zero r w la lr e none = omega (arith, lr, e)
+once_step (suc a) r w la lr e none = (let z = none (omega arith) in omega (arith, la, e, z))
+
 -- in at most one of them, and there at most once
 once_in_all : {M : Type 0} (h : M → List ℕ) (n : ℕ) (ms : List M) → ((i : ℕ) (x : M) → slice_get ms i ≡ Some x → times n (h x) ≤ 1)
     → ((i j : ℕ) (x y : M) → slice_get ms i ≡ Some x → slice_get ms j ≡ Some y → 1 ≤ times n (h x) → 1 ≤ times n (h y) → i ≡ j) → times n (flat_map h ms) ≤ 1
 once_in_all h n [] one apart = omega arith
-once_in_all h n (m ∷ ms) one apart = by (here (times n (h m)))
-  where
-    here : (k : ℕ) → (k ≡ 0) ⊎ (1 ≤ k)
-    here zero = inl refl
-    here (suc k) = inr (omega arith)
-
-    rest : times n (flat_map h ms) ≤ 1
-    rest = once_in_all h n ms (λ i x q. one (suc i) x q) (λ i j x y p q a b. (let e = apart (suc i) (suc j) x y p q a b in omega (arith, e)))
-
-    some : (i : ℕ) (x : _) → slice_get ms i ≡ Some x → 1 ≤ times n (h m) → (k : ℕ) → times n (h x) ≡ k → k ≡ 0
-    some i x q first zero e = refl
-    some i x q first (suc k) e = absurd (let z = apart 0 (suc i) m x refl q first (omega (arith, e)) in omega (arith, z))
-
-    by : ((times n (h m) ≡ 0) ⊎ (1 ≤ times n (h m))) → times n (h m ++ flat_map h ms) ≤ 1
-    by (inl none) = (let a = times-append n (h m) (flat_map h ms) in let r = rest in omega (arith, a, none, r))
-    by (inr first) =
-        (let a = times-append n (h m) (flat_map h ms) in let o = one 0 m refl in
-        let z = none_in_all h n ms (λ i x q. some i x q first (times n (h x)) refl) in omega (arith, a, o, z))
+once_in_all h n (m ∷ ms) one apart =
+    once_step (times n (h m)) (times n (flat_map h ms)) (times n (h m ++ flat_map h ms)) (one 0 m refl)
+    (once_in_all h n ms (λ i x q. one (suc i) x q) (λ i j x y p q a b. (let e = apart (suc i) (suc j) x y p q a b in omega (arith, e)))) (times-append n (h m) (flat_map h ms))
+    (λ first. none_in_all h n ms (λ i x q. none_by (times n (h x)) (λ some. (let z = apart 0 (suc i) m x refl q first some in absurd (omega (arith, z))))))
 
 -- where it stands, it stands in one of them
-stands_in : {M : Type 0} (h : M → List ℕ) (n : ℕ) (ms : List M) → 1 ≤ times n (flat_map h ms) → (i : ℕ) × (x : M) × (slice_get ms i ≡ Some x) × (1 ≤ times n (h x))
-stands_in h n [] some = absurd (omega (arith, some))
-stands_in h n (m ∷ ms) some = by (here (times n (h m)))
-  where
-    here : (k : ℕ) → (k ≡ 0) ⊎ (1 ≤ k)
-    here zero = inl refl
-    here (suc k) = inr (omega arith)
+abbrev StandsIn : {M : Type 0} → (M → List ℕ) → ℕ → List M → Type 0
+StandsIn {M} h n ms = (i : ℕ) × (x : M) × (slice_get ms i ≡ Some x) × (1 ≤ times n (h x))
 
-    by : ((times n (h m) ≡ 0) ⊎ (1 ≤ times n (h m))) → (i : ℕ) × (x : _) × (slice_get (m ∷ ms) i ≡ Some x) × (1 ≤ times n (h x))
-    by (inr first) = (0, m, refl, first)
-    by (inl none) = (let a = times-append n (h m) (flat_map h ms) in let r = stands_in h n ms (omega (arith, a, none, some)) in (suc r.0, r.1, r.2, r.3))
+stands_step : {M : Type 0} (h : M → List ℕ) (n : ℕ) (m : M) (ms : List M) → ((times n (h m) ≡ 0) ⊎ (1 ≤ times n (h m))) → 1 ≤ times n (h m ++ flat_map h ms)
+    → (1 ≤ times n (flat_map h ms) → StandsIn h n ms) → StandsIn h n (m ∷ ms)
+stands_step h n m ms (inr first) some go = (0, m, refl, first)
+stands_step h n m ms (inl none) some go = (let a = times-append n (h m) (flat_map h ms) in let r = go (omega (arith, a, none, some)) in (suc r.0, r.1, r.2, r.3))
+
+stands_in : {M : Type 0} (h : M → List ℕ) (n : ℕ) (ms : List M) → 1 ≤ times n (flat_map h ms) → StandsIn h n ms
+stands_in h n [] some = absurd (omega (arith, some))
+stands_in h n (m ∷ ms) some = stands_step h n m ms (zero_or (times n (h m))) some (λ more. stands_in h n ms more)
 
 -- THE ARCHIVES OF A TABLE
 
+one_once : (k n : ℕ) → times n (k ∷ []) ≤ 1
+one_once k n = ⊎_elim
+    (λ (h : (eqb k n ≡ true) × (k ≡ n)). (let o = ap one_if h.0 in omega (arith, o)))
+    (λ (h : (eqb k n ≡ false) × (k ≢ n)). (let o = ap one_if h.0 in omega (arith, o)))
+    (eqb_tells k n)
+
 -- a column has a number at most once
 home_once : (o : Option Moving) (home n : ℕ) → IfSome o (λ m. m.to ≢ home) → times n (home ∷ target_of o) ≤ 1
-home_once None home n apart = once home n
-  where
-    once : (k n : ℕ) → times n (k ∷ []) ≤ 1
-    once k n = grind (arith, nat_tests)
-home_once (Some m) home n apart = grind (arith, nat_tests)
+home_once None home n apart = one_once home n
+home_once (Some m) home n apart = ⊎_elim
+    (λ (h : (eqb home n ≡ true) × (home ≡ n)). (let o = ap one_if h.0 in let z = times_there m.to n (λ e. apart (e ∙ sym h.1)) in omega (arith, o, z)))
+    (λ (h : (eqb home n ≡ false) × (home ≢ n)). (let o = ap one_if h.0 in let z = one_once m.to n in omega (arith, o, z)))
+    (eqb_tells home n)
 
 module _ (t : Table) (is : IsTable t) where
   column_is : (c : ℕ) (x : Column) → slice_get t.columns c ≡ Some x → column_at t c ≡ x

@@ -79,7 +79,7 @@ module _ (rack : Rack) (t : Table) (is : IsTable t) (columns : t.data_columns â‰
   entry_fits (entry.Skip job s) legal whole low = (whole, subst (Î» n. s < n) stripes legal.0.1)
   entry_fits (entry.Seen job s c) legal whole low = (whole, at s c legal.0.0 legal.0.1)
   entry_fits (entry.Gone job s c) legal whole low = (whole, at s c legal.0 legal.1)
-  entry_fits (entry.Broke job s c) legal whole low = (whole, at s c legal.1.0.0 legal.1.0.1)
+  entry_fits (entry.Broke job s c) legal whole low = (whole, at s c legal.1.0 legal.1.1)
   entry_fits (entry.Fault job s c) legal whole low = (whole, at s c legal.0 legal.1)
   entry_fits (entry.Begin job s c) legal whole low = (whole, at s c legal.0.0 legal.0.1)
   entry_fits (entry.Hop job s c) legal whole low = (whole, at s c legal.0.0 legal.0.1)

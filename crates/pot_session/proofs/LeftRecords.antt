@@ -14,6 +14,7 @@ use Rattle.pot_object.specs.Pieces.{pieces_of}
 use Rattle.pot_outside.specs.Archives.{Meaning}
 use Rattle.pot_machine.specs.declared.entry.Entry.{Entry}
 use Rattle.pot_machine.specs.Logs.{Fills, IsKeptPut}
+use Rattle.pot_machine.specs.Machine as machine
 use Rattle.pot_machine.specs.Slot.{is_void}
 use Rattle.pot_machine.specs.Table.{Table, slot_at}
 use Rattle.pot_machine.specs.Rules.{IsTable}
@@ -68,7 +69,7 @@ module _ (told : Type 0) (meant : ℕ → Meaning) (Has : Shelves → ℕ → Ty
         table = u.0;
         group = u.1;
         slot = subst (λ (v : Table). is_void (slot_at v p.stripe p.column) ≡ false) (sym left.is)
-            (filled_stays f.table left.view.log left.view.table p.stripe p.column of.rules (subst (λ (v : Table). Replays v left.view.log left.view.table) left.first left.settled.replay) column f.slot);
+            (filled_stays f.table left.view.log left.view.table p.stripe p.column of.rules (subst (λ (v : Table). machine.Replays v left.view.log left.view.table) left.first left.settled.replay) column f.slot);
       }
 
   -- and so has one that was put
@@ -84,13 +85,13 @@ module _ (told : Type 0) (meant : ℕ → Meaning) (Has : Shelves → ℕ → Ty
         group = u.1;
         slot = subst (λ (v : Table). is_void (slot_at v p.stripe p.column) ≡ false) (sym left.is)
             (not_void (slot_at left.view.table p.stripe p.column) d
-            (put_digest t.0 left.view.log left.view.table p.stripe p.column d e of.rules (subst (λ (v : Table). Replays v left.view.log left.view.table) left.first left.settled.replay)
+            (put_digest t.0 left.view.log left.view.table p.stripe p.column d e of.rules (subst (λ (v : Table). machine.Replays v left.view.log left.view.table) left.first left.settled.replay)
             (subst (λ l. Contains l e) (sym left.is_log) has) (fills kept)));
       }
     where
       fills : IsKeptPut job p.stripe p.column d e → Fills p.stripe p.column d e
       fills (inl (q, is)) = subst (Fills p.stripe p.column d) (sym is) (refl, refl, refl)
-      fills (inr (q, (k, is))) = subst (Fills p.stripe p.column d) (sym is) (refl, refl, refl)
+      fills (inr (q, k, is)) = subst (Fills p.stripe p.column d) (sym is) (refl, refl, refl)
 
   -- a record that was read
   read_filled : (r : Record) → FitsRack rack r → IsRecordOver ts r → HasFilled r
