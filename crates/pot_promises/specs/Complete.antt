@@ -49,7 +49,7 @@ abbrev pub NextIsAnswered : Type 0
 NextIsAnswered =
     (words : List Text) (drawn : List ℕ) (seen : Seen) (answer : Status)
     → Runs words drawn seen answer → IsTrue seen.source.tells → IsTrue seen.desk.tells
-    → (given : List ℕ) → AsksSession words given
+    → (given : List ℕ) → AsksSession words drawn given
     → (left : Contents) → HasImage seen.desk.before.held left → CanGoOn left
     → (steps : List Step) → IsRead left.rack seen.source steps
     → (IsFault answer → ⊥) → (answer ≡ status.NoMemory → ⊥)
