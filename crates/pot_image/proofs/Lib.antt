@@ -15,6 +15,7 @@ pub mod RecordRules
 pub mod RecordsKept
 pub mod Frames
 pub mod WriteRules
+pub mod WholeRules
 pub mod Spelled
 pub mod HeadSpelled
 pub mod TableSpelled

@@ -137,6 +137,48 @@ FitsIndexEntry (Listed job) = IsJob job
 FitsIndexEntry (Renew job x mark) = IsJob job × (IsName x × IsDigest mark)
 FitsIndexEntry (Often job x) = IsJob job × IsName x
 
+-- WHAT IS WHOLE OF AN IMAGE THAT WAS WRITTEN
+
+-- the job of an entry of a group's log has four bytes, and its digests are whole
+abbrev pub IsWholeEntry : Entry → Type 0
+IsWholeEntry (Put job s c d p kept) = IsJob job × (IsDigest d × IsDigest p)
+IsWholeEntry (Skip job s) = IsJob job
+IsWholeEntry (Seen job s c) = IsJob job
+IsWholeEntry (Gone job s c) = IsJob job
+IsWholeEntry (Broke job s c) = IsJob job
+IsWholeEntry (Fault job s c) = IsJob job
+IsWholeEntry (Begin job s c) = IsJob job
+IsWholeEntry (Hop job s c) = IsJob job
+IsWholeEntry (Mended job s c) = IsJob job
+IsWholeEntry (GaveUp job s c other) = IsJob job
+IsWholeEntry (Oddly job s c found) = IsJob job × IsDigest found
+IsWholeEntry (Stuck job s c other) = IsJob job
+IsWholeEntry (MoveBegin job c to) = IsJob job
+IsWholeEntry (Moved job s c copied) = IsJob job
+IsWholeEntry (MoveEnd job c) = IsJob job
+IsWholeEntry (Swapped job c to) = IsJob job
+IsWholeEntry (Counted job) = IsJob job
+IsWholeEntry (Put2 job s c d p q kept kept2) =
+    IsJob job × (IsDigest d × (IsDigest p × IsDigest q))
+
+-- a record of a name, with a whole digest
+abbrev pub IsWholeRecord : Record → Type 0
+IsWholeRecord r = IsName r.name × IsDigest r.digest
+
+-- the session and the jobs have four bytes, digests are whole, and names are names
+pub record HasValues (v : Contents) : Type 0 where
+  pub session : v.session < 2 ^ 32
+  pub digests : All HaveDigests v.tables
+  pub records : All IsWholeRecord v.records
+  pub group_logs : All (All IsWholeEntry) v.group_logs
+  pub index_log : All FitsIndexEntry v.index_log
+
+-- So it is, and the bytes are fewer than 2^64. This holds of each image that was written, whatever
+-- else it holds.
+pub record IsWhole (v : Contents) : Type 0 where
+  pub values : HasValues v
+  pub short : length (image_bytes v) < 2 ^ 64
+
 -- at most 262,144 values that fit
 pub record IsLog {X : Type 0} (Fits : X → Type 0) (xs : List X) : Type 0 where
   pub count : length xs ≤ log_bound

@@ -1,5 +1,6 @@
 //! How the entries of a group's log are written.
 ghost use Rattle.std.specs.Prelude.{◌≡◌, ◌++◌, OnOk};
+ghost use Rattle.pot_image.specs.Rules.{IsJob, IsWholeEntry};
 ghost use Rattle.pot_image.specs.Spelling.{lead_bytes, place_bytes, entry_bytes};
 
 use crate::writing::{append_digest, append_flag, append_number, append_place};
@@ -8,7 +9,8 @@ use std::alloc::AllocError;
 
 /// The kind of an entry and its job.
 pub(crate) fn append_lead(out: &mut Vec<u8>, kind: u8, job: u32) -> Result<(), AllocError>
-    ensures { OnOk result (out.new.items ≡ out.old.items ++ lead_bytes kind job) }
+    ensures bytes { OnOk result (out.new.items ≡ out.old.items ++ lead_bytes kind job) }
+    ensures whole { IsJob job }
 {
     out.extend_from_slice(&[kind])?;
     append_number(out, job)
@@ -22,8 +24,9 @@ fn append_placed(
     stripe: u32,
     column: u8,
 ) -> Result<(), AllocError>
-    ensures { OnOk result
+    ensures bytes { OnOk result
         (out.new.items ≡ out.old.items ++ (lead_bytes kind job ++ place_bytes stripe column)) }
+    ensures whole { IsJob job }
 {
     append_lead(out, kind, job)?;
     append_place(out, stripe, column)
@@ -32,7 +35,8 @@ fn append_placed(
 /// An entry.
 #[tactic(auto, unfolding(crate::specs::Spelling::entry_bytes))]
 pub(crate) fn append_entry(out: &mut Vec<u8>, entry: &Entry) -> Result<(), AllocError>
-    ensures { OnOk result (out.new.items ≡ out.old.items ++ entry_bytes entry.now) }
+    ensures bytes { OnOk result (out.new.items ≡ out.old.items ++ entry_bytes entry.now) }
+    ensures whole { OnOk result (IsWholeEntry entry.now) }
 {
     match *entry {
         Entry::Put {

@@ -7,11 +7,13 @@ ghost use Rattle.pot_image.specs.Images.{contents};
 ghost use Rattle.pot_image.specs.Spelling.{table_bytes, entry_bytes, index_entry_bytes};
 ghost use Rattle.pot_image.specs.Spelling.{counted_bytes, field_bytes, text_bytes, image_bytes};
 ghost use Rattle.pot_image.specs.Spelling.{IsCountable};
+ghost use Rattle.pot_image.specs.Rules.{FitsIndexEntry, HasValues, HaveDigests, IsWhole};
+ghost use Rattle.pot_image.specs.Rules.{IsWholeEntry, IsWholeRecord};
 
 use crate::entry_writing::append_entry;
 use crate::image::Image;
 use crate::index_writing::append_index_entry;
-use crate::writing::{append_digest, append_head, append_number, append_table};
+use crate::writing::{append_digest, append_head, append_number, append_table, digest_law};
 use byteorder::{BigEndian, ByteOrder};
 use pot_bytes::{NoMemory, digest_of};
 use pot_index::{IndexEntry, Record, write_record};
@@ -20,7 +22,8 @@ use std::alloc::{AllocError, Global};
 
 /// The tables of the groups.
 fn append_tables(out: &mut Vec<u8>, tables: &[GroupTable]) -> Result<(), AllocError>
-    ensures { OnOk result (out.new.items ≡ out.old.items ++ flat_map table_bytes tables.now) }
+    ensures bytes { OnOk result (out.new.items ≡ out.old.items ++ flat_map table_bytes tables.now) }
+    ensures whole { OnOk result (All HaveDigests tables.now) }
 {
     for table in tables {
         append_table(out, table)?;
@@ -28,15 +31,26 @@ fn append_tables(out: &mut Vec<u8>, tables: &[GroupTable]) -> Result<(), AllocEr
     Ok(())
 }
 
+/// A record.
+fn append_record(out: &mut Vec<u8>, kept: &Record) -> Result<(), NoMemory>
+    ensures bytes { OnOk result (out.new.items ≡ out.old.items ++ record_bytes kept.now) }
+    ensures whole { IsWholeRecord kept.now }
+{
+    let _name = kept.name.bytes();
+    digest_law(kept.digest);
+    write_record(kept, out)
+}
+
 /// The number of the records, and the records.
 fn append_records(out: &mut Vec<u8>, records: &[Record]) -> Result<(), NoMemory>
     requires { length records.now < 2 ^ 32 }
-    ensures { OnOk result
+    ensures bytes { OnOk result
         (out.new.items ≡ out.old.items ++ counted_bytes record_bytes records.now) }
+    ensures whole { OnOk result (All IsWholeRecord records.now) }
 {
     append_number(out, records.len() as u32)?;
     for record in records {
-        write_record(record, out)?;
+        append_record(out, record)?;
     }
     Ok(())
 }
@@ -44,7 +58,9 @@ fn append_records(out: &mut Vec<u8>, records: &[Record]) -> Result<(), NoMemory>
 /// The number of the entries of a group's log, and the entries.
 fn append_log(out: &mut Vec<u8>, entries: &[Entry]) -> Result<(), AllocError>
     requires { length entries.now < 2 ^ 32 }
-    ensures { OnOk result (out.new.items ≡ out.old.items ++ counted_bytes entry_bytes entries.now) }
+    ensures bytes { OnOk result
+        (out.new.items ≡ out.old.items ++ counted_bytes entry_bytes entries.now) }
+    ensures whole { OnOk result (All IsWholeEntry entries.now) }
 {
     append_number(out, entries.len() as u32)?;
     for entry in entries {
@@ -56,9 +72,10 @@ fn append_log(out: &mut Vec<u8>, entries: &[Entry]) -> Result<(), AllocError>
 /// The logs of the groups.
 fn append_logs(out: &mut Vec<u8>, logs: &[Vec<Entry>]) -> Result<(), AllocError>
     requires { All (λ v. length v.items < 2 ^ 32) logs.now }
-    ensures { OnOk result
+    ensures bytes { OnOk result
         (out.new.items
         ≡ out.old.items ++ flat_map (λ v. counted_bytes entry_bytes v.items) logs.now) }
+    ensures whole { OnOk result (All (λ v. All IsWholeEntry v.items) logs.now) }
 {
     for log in logs {
         append_log(out, log)?;
@@ -69,8 +86,9 @@ fn append_logs(out: &mut Vec<u8>, logs: &[Vec<Entry>]) -> Result<(), AllocError>
 /// The number of the entries of the index's log, and the entries.
 fn append_index_log(out: &mut Vec<u8>, entries: &[IndexEntry]) -> Result<(), AllocError>
     requires { length entries.now < 2 ^ 32 }
-    ensures { OnOk result
+    ensures bytes { OnOk result
         (out.new.items ≡ out.old.items ++ counted_bytes index_entry_bytes entries.now) }
+    ensures whole { OnOk result (All FitsIndexEntry entries.now) }
 {
     append_number(out, entries.len() as u32)?;
     for entry in entries {
@@ -82,7 +100,9 @@ fn append_index_log(out: &mut Vec<u8>, entries: &[IndexEntry]) -> Result<(), All
 /// The fields of an image.
 fn append_fields(out: &mut Vec<u8>, image: &Image) -> Result<(), NoMemory>
     requires { IsCountable image.now }
-    ensures { OnOk result (out.new.items ≡ out.old.items ++ field_bytes (contents image.now)) }
+    ensures bytes { OnOk result
+        (out.new.items ≡ out.old.items ++ field_bytes (contents image.now)) }
+    ensures whole { OnOk result (HasValues (contents image.now)) }
 {
     append_head(out, image.session, &image.rack)?;
     append_tables(out, &image.tables)?;
@@ -119,7 +139,8 @@ fn room(image: &Image) -> usize {
 fn append_text(out: &mut Vec<u8>, image: &Image) -> Result<(), NoMemory>
     requires image { IsCountable image.now }
     requires empty { out.old.items ≡ [] }
-    ensures { OnOk result (out.new.items ≡ text_bytes (contents image.now)) }
+    ensures bytes { OnOk result (out.new.items ≡ text_bytes (contents image.now)) }
+    ensures whole { OnOk result (HasValues (contents image.now)) }
 {
     out.extend_from_slice(&[b'P', b'S', b'I', b'1', 0, 0, 0, 2])?;
     out.extend_from_slice(&[0; 8])?;
@@ -140,7 +161,8 @@ fn append_text(out: &mut Vec<u8>, image: &Image) -> Result<(), NoMemory>
 /// Want of memory alone.
 pub fn write_image(alloc: Global, image: &Image) -> Result<Vec<u8>, NoMemory>
     requires { IsCountable image.now }
-    ensures { IfOk result (λ v. v.items ≡ image_bytes (contents image.now)) }
+    ensures bytes { IfOk result (λ v. v.items ≡ image_bytes (contents image.now)) }
+    ensures whole { OnOk result (IsWhole (contents image.now)) }
 {
     let mut out = Vec::with_capacity(alloc, room(image))?;
     append_text(&mut out, image)?;

@@ -1,6 +1,8 @@
 //! How the entries of the index's log are written.
 ghost use Rattle.std.specs.Prelude.{◌≡◌, ◌++◌, OnOk};
+ghost use Rattle.pot_bytes.specs.Names.{IsName};
 ghost use Rattle.pot_index.specs.Records.{name_bytes};
+ghost use Rattle.pot_image.specs.Rules.{FitsIndexEntry, IsJob};
 ghost use Rattle.pot_image.specs.Spelling.{lead_bytes, index_entry_bytes};
 
 use crate::entry_writing::append_lead;
@@ -11,8 +13,10 @@ use std::alloc::AllocError;
 
 /// A kind, a job and a name.
 fn append_named(out: &mut Vec<u8>, kind: u8, job: u32, name: &Name) -> Result<(), AllocError>
-    ensures { OnOk result
+    ensures bytes { OnOk result
         (out.new.items ≡ out.old.items ++ (lead_bytes kind job ++ name_bytes name.now)) }
+    ensures job { IsJob job }
+    ensures name { IsName name.now }
 {
     let bytes = name.bytes();
     append_lead(out, kind, job)?;
@@ -23,7 +27,9 @@ fn append_named(out: &mut Vec<u8>, kind: u8, job: u32, name: &Name) -> Result<()
 /// An entry.
 #[tactic(auto, unfolding(crate::specs::Spelling::index_entry_bytes))]
 pub(crate) fn append_index_entry(out: &mut Vec<u8>, entry: &IndexEntry) -> Result<(), AllocError>
-    ensures { OnOk result (out.new.items ≡ out.old.items ++ index_entry_bytes entry.now) }
+    ensures bytes { OnOk result
+        (out.new.items ≡ out.old.items ++ index_entry_bytes entry.now) }
+    ensures whole { OnOk result (FitsIndexEntry entry.now) }
 {
     match entry {
         IndexEntry::Reserve { job, name } => append_named(out, 1, *job, name),

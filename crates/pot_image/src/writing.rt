@@ -1,9 +1,10 @@
 //! How the parts of an image are written: each is appended to the bytes so far.
-ghost use Rattle.std.specs.Prelude.{◌≡◌, ◌<◌, ◌*◌, ◌++◌, OnOk, take, drop, flat_map};
+ghost use Rattle.std.specs.Prelude.{◌≡◌, ◌<◌, ◌*◌, ◌^◌, ◌++◌, All, OnOk, take, drop, flat_map};
 ghost use Rattle.pot_machine.specs.Table.{width};
 ghost use Rattle.byteorder.specs.Endian.{big_bytes};
 ghost use Rattle.pot_image.specs.Spelling.{flag_bytes, head_bytes, cursor_bytes, move_bytes};
 ghost use Rattle.pot_image.specs.Spelling.{column_bytes, slot_bytes, table_bytes, place_bytes};
+ghost use Rattle.pot_image.specs.Rules.{HasDigest, HaveDigests, IsDigest};
 
 use pot_bytes::{Digest, Rack};
 use pot_machine::{Column, Cursor, GroupTable, SlotState};
@@ -23,9 +24,15 @@ pub(crate) fn append_flag(out: &mut Vec<u8>, flag: bool) -> Result<(), AllocErro
     out.extend_from_slice(&[u8::from(flag)])
 }
 
+/// A digest is whole. It does nothing.
+pub(crate) fn digest_law(digest: Digest)
+    ensures { IsDigest digest }
+{}
+
 /// A digest.
 pub(crate) fn append_digest(out: &mut Vec<u8>, digest: Digest) -> Result<(), AllocError>
-    ensures { OnOk result (out.new.items ≡ out.old.items ++ digest.bytes) }
+    ensures bytes { OnOk result (out.new.items ≡ out.old.items ++ digest.bytes) }
+    ensures whole { IsDigest digest }
 {
     out.extend_from_slice(&digest.bytes)
 }
@@ -40,7 +47,8 @@ pub(crate) fn append_place(out: &mut Vec<u8>, stripe: u32, column: u8) -> Result
 
 /// The session and the rack.
 pub(crate) fn append_head(out: &mut Vec<u8>, session: u32, rack: &Rack) -> Result<(), AllocError>
-    ensures { OnOk result (out.new.items ≡ out.old.items ++ head_bytes session rack.now) }
+    ensures bytes { OnOk result (out.new.items ≡ out.old.items ++ head_bytes session rack.now) }
+    ensures whole { session < 2 ^ 32 }
 {
     let geometry = rack.geometry;
     append_number(out, session)?;
@@ -101,7 +109,8 @@ fn append_columns(out: &mut Vec<u8>, columns: &[Column]) -> Result<(), AllocErro
 
 /// A slot.
 fn append_slot(out: &mut Vec<u8>, slot: SlotState) -> Result<(), AllocError>
-    ensures { OnOk result (out.new.items ≡ out.old.items ++ slot_bytes slot) }
+    ensures bytes { OnOk result (out.new.items ≡ out.old.items ++ slot_bytes slot) }
+    ensures whole { OnOk result (HasDigest slot) }
 {
     match slot {
         SlotState::Void => { out.extend_from_slice(&[0]) }
@@ -123,11 +132,13 @@ fn append_slot(out: &mut Vec<u8>, slot: SlotState) -> Result<(), AllocError>
 /// The slots of a stripe.
 fn append_stripe(out: &mut Vec<u8>, table: &GroupTable, stripe: u32) -> Result<(), AllocError>
     requires { stripe < table.now.stripes }
-    ensures { OnOk result
+    ensures bytes { OnOk result
         (out.new.items
         ≡ out.old.items
         ++ flat_map slot_bytes
         (take (width table.now) (drop (stripe * width table.now) table.now.slots))) }
+    ensures whole { OnOk result
+        (All HasDigest (take (width table.now) (drop (stripe * width table.now) table.now.slots))) }
 {
     for column in 0..table.data_columns() + table.parity() {
         append_slot(out, table.slot(stripe, column))?;
@@ -137,7 +148,9 @@ fn append_stripe(out: &mut Vec<u8>, table: &GroupTable, stripe: u32) -> Result<(
 
 /// The slots of a table, stripe by stripe and column by column.
 fn append_slots(out: &mut Vec<u8>, table: &GroupTable) -> Result<(), AllocError>
-    ensures { OnOk result (out.new.items ≡ out.old.items ++ flat_map slot_bytes table.now.slots) }
+    ensures bytes { OnOk result
+        (out.new.items ≡ out.old.items ++ flat_map slot_bytes table.now.slots) }
+    ensures whole { OnOk result (HaveDigests table.now) }
 {
     for stripe in 0..table.stripes() {
         append_stripe(out, table, stripe)?;
@@ -147,7 +160,8 @@ fn append_slots(out: &mut Vec<u8>, table: &GroupTable) -> Result<(), AllocError>
 
 /// A table.
 pub(crate) fn append_table(out: &mut Vec<u8>, table: &GroupTable) -> Result<(), AllocError>
-    ensures { OnOk result (out.new.items ≡ out.old.items ++ table_bytes table.now) }
+    ensures bytes { OnOk result (out.new.items ≡ out.old.items ++ table_bytes table.now) }
+    ensures whole { OnOk result (HaveDigests table.now) }
 {
     append_cursor(out, table.cursor())?;
     append_columns(out, table.columns())?;

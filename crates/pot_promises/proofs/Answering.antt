@@ -1,6 +1,6 @@
 -- A run whose words, image and script are in their grammars answers all commands.
 use Rattle.std.proofs.Common.{◌≡◌, inl, inr, ℕ, List, Option, Some, Result, Ok, Err, refl, ap, sym, ◌∙◌, subst, arith, MatchResult}
-use Rattle.std.specs.Prelude.{IsTrue}
+use Rattle.std.specs.Prelude.{IsTrue, None, length}
 use Rattle.std.proofs.lemmas.Option.{same_Some}
 use Rattle.pot_outside.specs.Accounts.{Transition, held_in}
 use Rattle.pot_bytes.specs.declared.rack.Rack.{Rack}
@@ -17,6 +17,8 @@ use Rattle.pot_image.specs.declared.fault.ImageFault.TheVariants as faults
 use Rattle.pot_image.specs.declared.image.Image.{Image}
 use Rattle.pot_image.specs.Images.{Contents, contents, image, Answered, Trailed, Measured, Numbered, Marked, AnswersImage}
 use Rattle.pot_image.specs.Fields.{IsOf}
+use Rattle.pot_image.specs.Spelling.{image_bytes}
+use Rattle.pot_image.proofs.ImageBack.{answers_back}
 use Rattle.pot_image.proofs.Once.{once_value, never_both}
 use Rattle.pot_session.specs.declared.ending.status.Status.{Status}
 use Rattle.pot_session.specs.declared.ending.status.Status.TheVariants as status
@@ -24,13 +26,13 @@ use Rattle.pot_session.specs.declared.ending.stop.Stop.{Stop}
 use Rattle.pot_session.specs.declared.ending.stop.Stop.TheVariants as stop
 use Rattle.pot_session.specs.Calls.{Runs, Nothing, Short, Makes, Session, Drilling, Recovering, Auditing, Generating}
 use Rattle.pot_session.specs.Commands.{IsRead, RefusesScript}
-use Rattle.pot_session.specs.Desks.{GoesOn, HoldsImage, RefusesBytes, RefusesDesk, IsDeskStop, IsKeepStop}
+use Rattle.pot_session.specs.Desks.{CanGoOn, HoldsImage, IsLast, RefusesBytes, RefusesDesk, IsDeskStop, IsKeepStop}
 use Rattle.pot_session.specs.Runs.{Holds, Stopped, Served, Stops, AtDesk, AtScript, AtOpening, Seen}
 use Rattle.pot_session.specs.Serving.{IsEnd}
 use Rattle.pot_session.specs.Stops.{Refuses, status_of}
 use Rattle.pot_session.specs.Tasks.{seed_of}
-use Rattle.pot_promises.specs.Complete.{AsksSession, IsFault, RunsAreAnswered}
-use Rattle.pot_promises.specs.Runs.{IsDone, RanAs}
+use Rattle.pot_promises.specs.Complete.{AsksSession, IsFault, NextIsAnswered, RunsAreAnswered}
+use Rattle.pot_promises.specs.Runs.{HasImage, IsDone, NeverRefused, RanAs}
 use Rattle.pot_promises.proofs.Running.{runs_are_sessions}
 
 -- BYTES ARE ANSWERED IN ONE WAY, BUT FOR WANT OF MEMORY
@@ -81,10 +83,27 @@ module _ (i : Image) where
   one_answer bytes (inr p) r (inl t) = absurd (let a = p.0 in let b = t.0 in omega (arith, a, b))
   one_answer bytes (inr p) r (inr t) = by_front bytes p.1 r t.1
 
+-- The desk has bytes that are answered with the image of these contents, or not at all.
+abbrev IsReadAs : Option (List ℕ) → Contents → Type 0
+IsReadAs held v = (bytes : List ℕ) × (held ≡ Some bytes) × ((r : Result Image ImageFault) → AnswersImage bytes r → IsThat v r)
+
+-- so it is where they are its bytes, and where they were read
+held_read : (held : Option (List ℕ)) (i : Image) → HoldsImage held i → IsReadAs held (contents i)
+held_read held i (bytes, is, answers) = (bytes, is, one_answer i bytes answers)
+
+has_read : (held : Option (List ℕ)) (v : Contents) → HasImage held v → IsReadAs held v
+has_read held v (is, rules) = (image_bytes v, is, answers_back v rules)
+
 -- a desk holds one image
-one_held : (held : Option (List ℕ)) (i j : Image) → HoldsImage held i → HoldsImage held j → contents j ≡ contents i
-one_held held i j (bytes, is, answers) (others, are, given) =
-    one_answer i bytes answers (Ok j) (subst (λ b. AnswersImage b (Ok j)) (same_Some others bytes (sym are ∙ is)) given)
+one_held : (held : Option (List ℕ)) (v : Contents) (j : Image) → IsReadAs held v → HoldsImage held j → contents j ≡ v
+one_held held v j (bytes, is, reads) (others, are, given) = reads (Ok j) (subst (λ b. AnswersImage b (Ok j)) (same_Some others bytes (sym are ∙ is)) given)
+
+-- its bytes are not refused by this fault
+no_fault_in : (held : Option (List ℕ)) (v : Contents) → IsReadAs held v → (e : ImageFault) → (e ≡ faults.NoMemory → ⊥) → (bytes : List ℕ) → held ≡ Some bytes → AnswersImage bytes (Err e) → ⊥
+no_fault_in held v (others, are, reads) e other bytes is refused = other (reads (Err e) (subst (λ b. AnswersImage b (Err e)) (same_Some bytes others (sym is ∙ are)) refused))
+
+not_bare : (held : Option (List ℕ)) (v : Contents) → IsReadAs held v → held ≡ None → ⊥
+not_bare held v (bytes, are, reads) none = absurd (cc (none, are))
 
 -- NO REFUSAL OF WHAT IS IN ITS GRAMMAR
 
@@ -99,24 +118,22 @@ module _ (answer : Status) (no_fault_said : IsFault answer → ⊥) (had_memory 
   no_desk : answer ≡ status.DeskFault → ⊥
   no_desk is = no_fault_said (subst IsFault (sym is) tt)
 
-  module _ (held : Option (List ℕ)) (i : Image) (holds_it : HoldsImage held i) (goes_on : GoesOn i) where
-    -- the bytes of the desk are not refused by this fault
-    not_by : (e : ImageFault) → (e ≡ faults.NoMemory → ⊥) → (bytes : List ℕ) → held ≡ Some bytes → AnswersImage bytes (Err e) → ⊥
-    not_by e other bytes is refused = by holds_it
-      where
-        by : HoldsImage held i → ⊥
-        by (others, are, answers) = other (one_answer i others answers (Err e) (subst (λ b. AnswersImage b (Err e)) (same_Some bytes others (sym is ∙ are)) refused))
-
+  module _ (held : Option (List ℕ)) (v : Contents) (reads : IsReadAs held v) (goes_on : CanGoOn v) where
     not_spent : (bytes : List ℕ) → held ≡ Some bytes → RefusesBytes bytes stop.Spent → ⊥
-    not_spent bytes is (j, answers, last) =
-        let same : j.session ≡ i.session = ap (λ (v : Contents). v.session) (one_held held i j holds_it (bytes, is, answers)) in
-        omega (arith, goes_on, last, same)
+    not_spent bytes is (j, answers, last) = by last
+      where
+        same : contents j ≡ v
+        same = one_held held v j reads (bytes, is, answers)
+
+        by : IsLast j → ⊥
+        by (inl number) = (let a = ap (λ (w : Contents). w.session) same in let g = goes_on.0 in omega (arith, g, number, a))
+        by (inr full) = (let a = ap (λ (w : Contents). length w.records) same in let g = goes_on.1 in omega (arith, g, full, a))
+
+    not_by : (e : ImageFault) → (e ≡ faults.NoMemory → ⊥) → (bytes : List ℕ) → held ≡ Some bytes → AnswersImage bytes (Err e) → ⊥
+    not_by e other bytes is refused = no_fault_in held v reads e other bytes is refused
 
     at_desk : (s : Stop) → IsDeskStop s → RefusesDesk held s → answer ≡ status_of s → ⊥
-    at_desk stop.NoImage d none is = by holds_it
-      where
-        by : HoldsImage held i → ⊥
-        by (bytes, are, answers) = absurd (cc (none, are))
+    at_desk stop.NoImage d none is = not_bare held v reads none
     at_desk stop.Cut d (bytes, is, refused) _ = not_by faults.Cut (λ e. absurd (cc e)) bytes is refused
     at_desk (stop.Trailer kept computed) d (bytes, is, refused) _ = not_by (faults.Trailer kept computed) (λ e. absurd (cc e)) bytes is refused
     at_desk (stop.Form place) d (bytes, is, refused) _ = not_by (faults.Form place) (λ e. absurd (cc e)) bytes is refused
@@ -187,19 +204,19 @@ ended_well status.TooWide e f m = absurd e
 -- THE WHOLE
 
 module _ (words : List Text) (drawn : List ℕ) (seen : Seen) (answer : Status) (source_told : IsTrue seen.source.tells) (desk_told : IsTrue seen.desk.tells)
-    (i : Image) (holds_it : HoldsImage seen.desk.before.held i) (goes_on : GoesOn i) (steps : List Step) (read : IsRead i.rack seen.source steps)
+    (v : Contents) (reads : IsReadAs seen.desk.before.held v) (goes_on : CanGoOn v) (steps : List Step) (read : IsRead v.rack seen.source steps)
     (no_fault_said : IsFault answer → ⊥) (had_memory : answer ≡ status.NoMemory → ⊥) where
   stops_not : (s : Stop) → Stops seen.source (held_in seen.desk) s → answer ≡ status_of s → ⊥
-  stops_not s (AtDesk d refused same) is = at_desk answer no_fault_said had_memory seen.desk.before.held i holds_it goes_on s d (refused desk_told) is
+  stops_not s (AtDesk d refused same) is = at_desk answer no_fault_said had_memory seen.desk.before.held v reads goes_on s d (refused desk_told) is
   stops_not s (AtScript j goes holds_that refused same) is =
-      let rack : j.rack ≡ i.rack = ap (λ (v : Contents). v.rack) (one_held seen.desk.before.held i j holds_it (holds_that desk_told)) in
-      at_script answer no_fault_said had_memory i.rack seen.source source_told steps read s
+      let rack : j.rack ≡ v.rack = ap (λ (w : Contents). w.rack) (one_held seen.desk.before.held v j reads (holds_that desk_told)) in
+      at_script answer no_fault_said had_memory v.rack seen.source source_told steps read s
       (subst (λ r. RefusesScript r seen.source s) rack refused) is
-  stops_not s (AtOpening j others of k keeps) is = at_keeping answer no_fault_said had_memory s k is
+  stops_not s (AtOpening j others of k image keeps) is = at_keeping answer no_fault_said had_memory s k is
 
   held_well : (seed : List ℕ) → Holds seed seen answer → IsDone answer
   held_well seed (Stopped s stops refuses same) = absurd (refused_so answer no_fault_said had_memory seen.sink s refuses (stops_not s stops))
-  held_well seed (Served j others of fits whole serves ends untouched) = ended_well answer ends no_fault_said had_memory
+  held_well seed (Served j others of rules whole serves ends untouched) = ended_well answer ends no_fault_said had_memory
 
   abbrev Answers : Type 0
   Answers = IsDone answer × ((seed : List ℕ) × AsksSession words drawn seed × RanAs seed seen)
@@ -219,4 +236,91 @@ module _ (words : List Text) (drawn : List ℕ) (seen : Seen) (answer : Status) 
 
 pub runs_are_answered : RunsAreAnswered
 runs_are_answered words drawn seen answer it source_told desk_told given (run, spells, is) i holds_it goes_on steps read no_fault_said had_memory =
-    answered words drawn seen answer source_told desk_told i holds_it goes_on steps read no_fault_said had_memory run spells it
+    answered words drawn seen answer source_told desk_told (contents i) (held_read seen.desk.before.held i holds_it) goes_on steps read no_fault_said had_memory run spells it
+
+pub next_is_answered : NextIsAnswered
+next_is_answered words drawn seen answer it source_told desk_told given (run, spells, is) left has goes_on steps read no_fault_said had_memory =
+    answered words drawn seen answer source_told desk_told left (has_read seen.desk.before.held left has) goes_on steps read no_fault_said had_memory run spells it
+
+-- NO IMAGE IS REFUSED
+
+module _ (answer : Status) (refused : answer ≡ status.ImageRefused) where
+  -- a status that is another
+  other : (s : Status) → (s ≡ status.ImageRefused → ⊥) → answer ≡ s → ⊥
+  other s ne is = ne (sym is ∙ refused)
+
+  desk_reads : (held : Option (List ℕ)) (v : Contents) → IsReadAs held v → (s : Stop) → IsDeskStop s → RefusesDesk held s → answer ≡ status_of s → ⊥
+  desk_reads held v reads stop.NoImage d none is = not_bare held v reads none
+  desk_reads held v reads stop.Cut d (bytes, at, why) is = no_fault_in held v reads faults.Cut (λ e. absurd (cc e)) bytes at why
+  desk_reads held v reads (stop.Trailer kept computed) d (bytes, at, why) is = no_fault_in held v reads (faults.Trailer kept computed) (λ e. absurd (cc e)) bytes at why
+  desk_reads held v reads (stop.Form place) d (bytes, at, why) is = no_fault_in held v reads (faults.Form place) (λ e. absurd (cc e)) bytes at why
+  desk_reads held v reads stop.Spent d why is = other status.SessionSpent (λ e. absurd (cc e)) is
+  desk_reads held v reads stop.DeskFault d why is = other status.DeskFault (λ e. absurd (cc e)) is
+  desk_reads held v reads stop.NoMemory d why is = other status.NoMemory (λ e. absurd (cc e)) is
+  desk_reads held v reads stop.Words d why is = d
+  desk_reads held v reads stop.SourceFault d why is = d
+  desk_reads held v reads (stop.BadLine number) d why is = d
+  desk_reads held v reads stop.Exists d why is = d
+  desk_reads held v reads stop.RoomFault d why is = d
+  desk_reads held v reads stop.TooWide d why is = d
+
+  script_reads : (rack : Rack) (source : Transition (List ℕ)) (s : Stop) → RefusesScript rack source s → answer ≡ status_of s → ⊥
+  script_reads rack source (stop.BadLine number) why is = other status.ScriptRefused (λ e. absurd (cc e)) is
+  script_reads rack source stop.SourceFault why is = other status.SourceFault (λ e. absurd (cc e)) is
+  script_reads rack source stop.NoMemory why is = other status.NoMemory (λ e. absurd (cc e)) is
+  script_reads rack source stop.Words why is = why
+  script_reads rack source stop.DeskFault why is = why
+  script_reads rack source stop.NoImage why is = why
+  script_reads rack source stop.Cut why is = why
+  script_reads rack source (stop.Trailer kept computed) why is = why
+  script_reads rack source (stop.Form place) why is = why
+  script_reads rack source stop.Spent why is = why
+  script_reads rack source stop.Exists why is = why
+  script_reads rack source stop.RoomFault why is = why
+  script_reads rack source stop.TooWide why is = why
+
+  keeping : (s : Stop) → IsKeepStop s → answer ≡ status_of s → ⊥
+  keeping stop.DeskFault k is = other status.DeskFault (λ e. absurd (cc e)) is
+  keeping stop.NoMemory k is = other status.NoMemory (λ e. absurd (cc e)) is
+  keeping stop.Words k is = k
+  keeping stop.SourceFault k is = k
+  keeping (stop.BadLine number) k is = k
+  keeping stop.NoImage k is = k
+  keeping stop.Cut k is = k
+  keeping (stop.Trailer kept computed) k is = k
+  keeping (stop.Form place) k is = k
+  keeping stop.Spent k is = k
+  keeping stop.Exists k is = k
+  keeping stop.RoomFault k is = k
+  keeping stop.TooWide k is = k
+
+  refusing : (sink : Transition (List ℕ)) (s : Stop) → Refuses sink s answer → (answer ≡ status_of s → ⊥) → ⊥
+  refusing sink s (inl p) never = never p.0
+  refusing sink s (inr (inl p)) never = other status.SinkFault (λ e. absurd (cc e)) p.0
+  refusing sink s (inr (inr p)) never = other status.NoMemory (λ e. absurd (cc e)) p.0
+
+  ends_not : IsEnd answer → ⊥
+  ends_not ends = subst IsEnd refused ends
+
+  module _ (seen : Seen) (told : IsTrue seen.desk.tells) (v : Contents) (reads : IsReadAs seen.desk.before.held v) where
+    stopping : (s : Stop) → Stops seen.source (held_in seen.desk) s → answer ≡ status_of s → ⊥
+    stopping s (AtDesk d why same) is = desk_reads seen.desk.before.held v reads s d (why told) is
+    stopping s (AtScript j goes holds_that why same) is = script_reads j.rack seen.source s why is
+    stopping s (AtOpening j others of k image keeps) is = keeping s k is
+
+    held_not : (seed : List ℕ) → Holds seed seen answer → ⊥
+    held_not seed (Stopped s stops refuses same) = refusing seen.sink s refuses (stopping s stops)
+    held_not seed (Served j others of rules whole serves ends untouched) = ends_not ends
+
+    run_not : (words : List Text) (drawn : List ℕ) (run : Run) → SpellTask words (task.Run run) → Runs words drawn seen answer → ⊥
+    run_not words drawn run spells (Nothing none unread refuses same room) = none (task.Run run) spells
+    run_not words drawn run spells (Short is unread sink same room) = other status.NoMemory (λ e. absurd (cc e)) is
+    run_not words drawn run spells (Makes rack that unread inits room) = absurd (cc (one_kind words (task.Run run) (task.Init rack) spells that))
+    run_not words drawn run spells (Drilling d that drills same room) = absurd (cc (one_kind words (task.Run run) (task.Drill d) spells that))
+    run_not words drawn run spells (Recovering r that unread recovers same) = absurd (cc (one_kind words (task.Run run) (task.Recover r) spells that))
+    run_not words drawn run spells (Auditing a that unread audits same room) = absurd (cc (one_kind words (task.Run run) (task.Audit a) spells that))
+    run_not words drawn run spells (Generating n that unread generates same room) = absurd (cc (one_kind words (task.Run run) (task.Generate n) spells that))
+    run_not words drawn run spells (Session that spelled it) = held_not (seed_of that drawn) it
+
+pub never_refused : NeverRefused
+never_refused words drawn seen answer runs told left has run spells refused = run_not answer refused seen told left (has_read seen.desk.before.held left has) words drawn run spells runs

@@ -27,16 +27,22 @@ use Rattle.pot_commands.specs.Streams.{Wrote}
 use Rattle.pot_session.specs.declared.ending.status.Status.{Status}
 use Rattle.pot_session.specs.declared.ending.stop.Stop.{Stop}
 use Rattle.pot_session.specs.declared.ending.stop.Stop.TheVariants as stop
-use Rattle.pot_session.specs.Desks.{HoldsImage, IsKeepStop, Keeps, begun}
+use Rattle.pot_bytes.specs.declared.rack.Rack.{Rack}
+use Rattle.pot_options.specs.Options.{Text}
+use Rattle.pot_session.specs.Calls.{Runs, Nothing, Short, Session, Drilling, Recovering, Auditing, Generating}
+use Rattle.pot_session.specs.Calls as calls
+use Rattle.pot_session.specs.Desks.{HoldsImage, IfWritten, IsKeepStop, Keeps, begun}
+use Rattle.pot_session.specs.Making.{Makes, empty_contents}
+use Rattle.pot_session.specs.Tasks.{seed_of}
 use Rattle.pot_session.specs.Runs.{Holds, Stopped, Served, AtDesk, AtScript, AtOpening, IsOf, Seen}
 use Rattle.pot_session.specs.Serving.{Serves, Unlent, Unopened, Closed, IsClosed, Leaves, close_answer, setting_of, status_after}
 use Rattle.pot_session.specs.Stops.{Refuses, status_of}
 use Rattle.std.proofs.lemmas.Option.{same_Some, slice_get_within}
 use Rattle.pot_bytes.proofs.Elements.{element_at}
 use Rattle.pot_machine.specs.Machine.{Replays}
-use Rattle.pot_promises.specs.Chains.{AllLead, Begins, Begun, IsSession, Later, More}
+use Rattle.pot_promises.specs.Chains.{AllLead, Begins, Begun, IsSession, Later, More, Same}
 use Rattle.pot_image.specs.Spelling.{image_bytes}
-use Rattle.pot_promises.specs.Runs.{ClosedAs, IsDone, NoneClosed, RanAs, RunsAreSessions, RunsGoLater, RunsGoOn, RunsMayClose}
+use Rattle.pot_promises.specs.Runs.{Bare, Came, ClosedAs, DesksStayGood, HasImage, HasLater, IsDone, Next, NoneClosed, RanAs, RunsAreSessions, RunsGoLater, RunsGoOn, RunsMayClose}
 
 -- no stop gives such a status
 not_done : (s : Stop) → IsDone (status_of s) → ⊥
@@ -135,31 +141,46 @@ cut_written sink rs its count is = (
 
 -- WHAT THE DESK HOLDS
 
+-- what it held, an image that keeps the rules of images, or none
+abbrev MayHave : Transition (Option (List ℕ)) → Contents → Type 0
+MayHave desk v = (desk.after ≡ desk.before) ⊎ (HasImage desk.after v ⊎ (desk.after ≡ None))
+
+failed_by : (desk : Transition (Option (List ℕ))) (v : Contents) → IsImage v → MayLeave desk.before (image_bytes v) desk.after → MayHave desk v
+failed_by desk v is (inl same) = inl same
+failed_by desk v is (inr (inl new)) = inr (inl (new, is))
+failed_by desk v is (inr (inr none)) = inr (inr none)
+
 -- where it did not take an image
-refused_by : (desk : Transition (Option (List ℕ))) (bytes : List ℕ) (s : Stop) → IsKeepStop s → Keeps desk bytes (Err s) → MayLeave desk.before bytes desk.after
-refused_by desk bytes stop.DeskFault which is = is
-refused_by desk bytes stop.NoMemory which is = inl is
-refused_by desk bytes stop.Words which is = absurd which
-refused_by desk bytes stop.SourceFault which is = absurd which
-refused_by desk bytes (stop.BadLine number) which is = absurd which
-refused_by desk bytes stop.NoImage which is = absurd which
-refused_by desk bytes stop.Cut which is = absurd which
-refused_by desk bytes (stop.Trailer kept computed) which is = absurd which
-refused_by desk bytes (stop.Form place) which is = absurd which
-refused_by desk bytes stop.Spent which is = absurd which
-refused_by desk bytes stop.Exists which is = absurd which
-refused_by desk bytes stop.RoomFault which is = absurd which
-refused_by desk bytes stop.TooWide which is = absurd which
+refused_by : (desk : Transition (Option (List ℕ))) (v : Contents) (s : Stop) → IsKeepStop s → IfWritten (Err s) (IsImage v) → Keeps desk (image_bytes v) (Err s) → MayHave desk v
+refused_by desk v stop.DeskFault which image is = failed_by desk v image is
+refused_by desk v stop.NoMemory which image is = inl is
+refused_by desk v stop.Words which image is = absurd which
+refused_by desk v stop.SourceFault which image is = absurd which
+refused_by desk v (stop.BadLine number) which image is = absurd which
+refused_by desk v stop.NoImage which image is = absurd which
+refused_by desk v stop.Cut which image is = absurd which
+refused_by desk v (stop.Trailer kept computed) which image is = absurd which
+refused_by desk v (stop.Form place) which image is = absurd which
+refused_by desk v stop.Spent which image is = absurd which
+refused_by desk v stop.Exists which image is = absurd which
+refused_by desk v stop.RoomFault which image is = absurd which
+refused_by desk v stop.TooWide which image is = absurd which
 
 -- and by how it took the image of a close
-left_by : (desk : Transition (Option (List ℕ))) (bytes : List ℕ) (r : Result (Unit {0}) Stop) → IfErr r IsKeepStop → Keeps desk bytes r → MayLeave desk.before bytes desk.after
-left_by desk bytes (Ok u) which is = inr (inl is)
-left_by desk bytes (Err s) which is = refused_by desk bytes s which is
+left_by : (desk : Transition (Option (List ℕ))) (v : Contents) (r : Result (Unit {0}) Stop) → IfErr r IsKeepStop → IfWritten r (IsImage v) → Keeps desk (image_bytes v) r → MayHave desk v
+left_by desk v (Ok u) which image is = inr (inl (is, image))
+left_by desk v (Err s) which image is = refused_by desk v s which image is
+
+-- where it had the image of the begin
+had_begun : (desk : Transition (Option (List ℕ))) (first last : Contents) → IsImage first → desk.before ≡ Some (image_bytes first) → MayHave desk last
+    → HasImage desk.after first ⊎ (HasImage desk.after last ⊎ (desk.after ≡ None))
+had_begun desk first last is before (inl same) = inl (same ∙ before, is)
+had_begun desk first last is before (inr new) = inr new
 
 -- THE NEXT RUN
 
 pub runs_go_on : RunsGoOn
-runs_go_on last held read is_image has (bytes, is, answers) =
+runs_go_on last held read (has, is_image) (bytes, is, answers) =
     let same : bytes ≡ image_bytes last = same_Some bytes (image_bytes last) (sym is ∙ has) in
     let it : contents read ≡ last = answers_back last is_image (Ok read) (subst (λ b. AnswersImage b (Ok read)) same answers) in
     record {
@@ -175,7 +196,7 @@ module _ (seed : List ℕ) (seen : Seen) (answer : Status) (told : IsTrue seen.d
   Ended = ClosedAs seed seen ⊎ NoneClosed (held_in seen.desk)
 
   -- a session began with the image that was read, and ended so
-  module _ (i : Image) (steps : List Step) (of : IsOf seen.source (held_in seen.desk) i steps) (fits : FitsTogether (begun (contents i))) where
+  module _ (i : Image) (steps : List Step) (of : IsOf seen.source (held_in seen.desk) i steps) (rules : IsImage (begun (contents i))) where
     abbrev first : Contents
     first = begun (contents i)
 
@@ -190,28 +211,28 @@ module _ (seed : List ℕ) (seen : Seen) (answer : Status) (told : IsTrue seen.d
     module _ (done : IsDone answer) where
       -- a session that closed, by how its steps and its close ended
       well : Shut → RanAs seed seen
-      well c = by c.ending c.ends c.missing c.kept c.leaves c.keeps.holds c.status
+      well c = by c.ending c.ends c.missing c.kept c.leaves c.keeps.holds c.image c.status
         where
           by : (e : Ending) → EndsOver (setting_of seed first) c.story seen.sink steps e → (missing : List ℕ) (r : Result (Unit {0}) Stop)
               → Leaves seen.room missing first c.last c.story
-              → (IsTrue seen.desk.tells → Keeps (since (held_in seen.desk) (Some (image_bytes first))) (image_bytes c.last) r)
+              → (IsTrue seen.desk.tells → Keeps (since (held_in seen.desk) (Some (image_bytes first))) (image_bytes c.last) r) → IfWritten r (IsImage c.last)
               → answer ≡ status_after e (close_answer missing r) → RanAs seed seen
-          by (ending.Done refused) ends [] (Ok u) leaves kept is = record {
+          by (ending.Done refused) ends [] (Ok u) leaves kept image is = record {
             read = i;
             was_held = of.image told;
             steps = steps;
             script = of.script;
             last = c.last;
             replies = ends.replies;
-            session = whole_session seed seen.room [] first c.last c.story fits leaves steps ends.replies ends.replied;
+            session = whole_session seed seen.room [] first c.last c.story rules.together leaves steps ends.replies ends.replied;
             written = ends.written;
-            left = kept told;
+            left = (kept told, image);
           }
-          by (ending.Done refused) ends [] (Err s) leaves kept is = absurd (not_done s (subst IsDone is done))
-          by (ending.Done refused) ends (n ∷ missing) r leaves kept is = absurd (subst IsDone is done)
-          by ending.SinkFailed ends missing r leaves kept is = absurd (subst IsDone is done)
-          by ending.RoomFailed ends missing r leaves kept is = absurd (subst IsDone is done)
-          by ending.NoMemory ends missing r leaves kept is = absurd (subst IsDone is done)
+          by (ending.Done refused) ends [] (Err s) leaves kept image is = absurd (not_done s (subst IsDone is done))
+          by (ending.Done refused) ends (n ∷ missing) r leaves kept image is = absurd (subst IsDone is done)
+          by ending.SinkFailed ends missing r leaves kept image is = absurd (subst IsDone is done)
+          by ending.RoomFailed ends missing r leaves kept image is = absurd (subst IsDone is done)
+          by ending.NoMemory ends missing r leaves kept image is = absurd (subst IsDone is done)
 
       served_well : Ends → RanAs seed seen
       served_well (Unlent is sink kept room others) = absurd (subst IsDone is done)
@@ -237,18 +258,19 @@ module _ (seed : List ℕ) (seen : Seen) (answer : Status) (told : IsTrue seen.d
           replies = rs;
           session = session;
           written = written;
-          left = left_by (since (held_in seen.desk) (Some (image_bytes first))) (image_bytes c.last) c.kept c.keeps.which (c.keeps.holds told);
+          left = had_begun (since (held_in seen.desk) (Some (image_bytes first))) first c.last rules refl
+              (left_by (since (held_in seen.desk) (Some (image_bytes first))) c.last c.kept c.keeps.which c.image (c.keeps.holds told));
         }
 
         short : (Left : Setting → ℕ → Sessions.Step Command → Section → Type 0)
             → EndsShort (λ ds d rs. StopsAt Left (setting_of seed first) ds d rs c.story) seen.sink steps → ClosedAs seed seen
         short Left ends =
             front ends.first (ends.next ∷ ends.rest) ends.replies (ends.parts ∙ append_assoc ends.first (ends.next ∷ []) ends.rest)
-            (session_of seed seen.room c.missing first c.last c.story fits c.leaves ends.first ends.replies ends.replied.done ends.replied.last ends.replied.follows ends.replied.replied)
+            (session_of seed seen.room c.missing first c.last c.story rules.together c.leaves ends.first ends.replies ends.replied.done ends.replied.last ends.replied.follows ends.replied.replied)
             (all_written seen.sink ends.replies ends.written)
 
         whole : (ss : List Step) (rs : List Reply) → Replied (Row (setting_of seed first)) 1 (steps_of ss) rs c.story → IsSession seed first c.last ss rs
-        whole ss rs replied = whole_session seed seen.room c.missing first c.last c.story fits c.leaves ss rs replied
+        whole ss rs replied = whole_session seed seen.room c.missing first c.last c.story rules.together c.leaves ss rs replied
 
         by : (e : Ending) → EndsOver (setting_of seed first) c.story seen.sink steps e → ClosedAs seed seen
         by (ending.Done refused) ends = front steps [] ends.replies (sym (append-nil steps)) (whole steps ends.replies ends.replied) (all_written seen.sink ends.replies ends.written)
@@ -259,16 +281,16 @@ module _ (seed : List ℕ) (seen : Seen) (answer : Status) (told : IsTrue seen.d
         by ending.NoMemory ends = short IsStepLeft ends
 
     served : Ends → Ended
-    served (Unlent is sink kept room others) = inr (inr (inr (i, of.image told, kept told)))
-    served (Unopened is sink kept others) = inr (inr (inr (i, of.image told, kept told)))
+    served (Unlent is sink kept room others) = inr (inr (inr (i, of.image told, (kept told, rules))))
+    served (Unopened is sink kept others) = inr (inr (inr (i, of.image told, (kept told, rules))))
     served (Closed c) = inl (shut c)
 
   held_well : IsDone answer → Holds seed seen answer → RanAs seed seen
   held_well done (Stopped s stops refuses same) = absurd (refused_not seen.sink s answer refuses done)
-  held_well done (Served i steps of fits whole serves ends untouched) = served_well i steps of fits done serves
+  held_well done (Served i steps of rules whole serves ends untouched) = served_well i steps of rules done serves
 
   -- the desk did not take the image with which a session would begin
-  unopened : (i : Image) → HoldsImage seen.desk.before.held i → MayLeave seen.desk.before.held (image_bytes (begun (contents i))) seen.desk.after.held → NoneClosed (held_in seen.desk)
+  unopened : (i : Image) → HoldsImage seen.desk.before.held i → MayHave (held_in seen.desk) (begun (contents i)) → NoneClosed (held_in seen.desk)
   unopened i was_held (inl same) = inl same
   unopened i was_held (inr (inl new)) = inr (inr (i, was_held, new))
   unopened i was_held (inr (inr none)) = inr (inl none)
@@ -276,39 +298,31 @@ module _ (seed : List ℕ) (seen : Seen) (answer : Status) (told : IsTrue seen.d
   held_shut : Holds seed seen answer → Ended
   held_shut (Stopped s (AtDesk d refused same) refuses room) = inr (inl (same told))
   held_shut (Stopped s (AtScript i goes holds_that refused same) refuses room) = inr (inl (same told))
-  held_shut (Stopped s (AtOpening i steps of which keeps) refuses room) =
-      inr (unopened i (of.image told) (refused_by (held_in seen.desk) (image_bytes (begun (contents i))) s which (keeps told)))
-  held_shut (Served i steps of fits whole serves ends untouched) = served i steps of fits serves
+  held_shut (Stopped s (AtOpening i steps of which image keeps) refuses room) =
+      inr (unopened i (of.image told) (refused_by (held_in seen.desk) (begun (contents i)) s which image (keeps told)))
+  held_shut (Served i steps of rules whole serves ends untouched) = served i steps of rules serves
 
 -- LATER
 
-module _ (seed : List ℕ) (seen : Seen) (from left : Contents) (sofar : Later from left) (is_image : IsImage left) (has : seen.desk.before.held ≡ Some (image_bytes left))
-    (bytes : List ℕ) (there : seen.desk.after.held ≡ Some bytes) where
+module _ (seed : List ℕ) (seen : Seen) (from left : Contents) (sofar : Later from left) (has : HasImage seen.desk.before.held left) where
   abbrev Extends : Type 0
-  Extends = (now : Contents) × (bytes ≡ image_bytes now) × Later from now
-
-  -- the desk holds this one now
-  went : (now : Contents) → seen.desk.after.held ≡ Some (image_bytes now) → Later from now → Extends
-  went now is later = (now, same_Some bytes (image_bytes now) (sym there ∙ is), later)
-
-  not_none : seen.desk.after.held ≡ None → Extends
-  not_none none = (let no = sym there ∙ none in absurd (cc no))
+  Extends = HasLater from seen.desk.after.held ⊎ (seen.desk.after.held ≡ None)
 
   -- the session that follows the one that left it
   begins : (i : Image) → HoldsImage seen.desk.before.held i → Begins left (begun (contents i))
-  begins i was_held = runs_go_on left seen.desk.before.held i is_image has was_held
+  begins i was_held = runs_go_on left seen.desk.before.held i has was_held
 
-  closed_by : (c : ClosedAs seed seen) → MayLeave (Some (image_bytes (begun (contents c.read)))) (image_bytes c.last) seen.desk.after.held → Extends
-  closed_by c (inl is) = went (begun (contents c.read)) is (Begun sofar (begins c.read c.was_held))
+  closed_by : (c : ClosedAs seed seen) → HasImage seen.desk.after.held (begun (contents c.read)) ⊎ (HasImage seen.desk.after.held c.last ⊎ (seen.desk.after.held ≡ None)) → Extends
+  closed_by c (inl is) = inl (begun (contents c.read), is, Begun sofar (begins c.read c.was_held))
   closed_by c (inr (inl is)) =
-      went c.last is (More sofar (begins c.read c.was_held) (record { story = c.session.story.index_added; rack = c.session.rack; records = c.session.records }))
-  closed_by c (inr (inr none)) = not_none none
+      inl (c.last, is, More sofar (begins c.read c.was_held) (record { story = c.session.story.index_added; rack = c.session.rack; records = c.session.records }))
+  closed_by c (inr (inr none)) = inr none
 
   later_by : ClosedAs seed seen ⊎ NoneClosed (held_in seen.desk) → Extends
   later_by (inl c) = closed_by c c.left
-  later_by (inr (inl same)) = went left (same ∙ has) sofar
-  later_by (inr (inr (inl none))) = not_none none
-  later_by (inr (inr (inr (i, was_held, is)))) = went (begun (contents i)) is (Begun sofar (begins i was_held))
+  later_by (inr (inl same)) = inl (left, (same ∙ has.0, has.1), sofar)
+  later_by (inr (inr (inl none))) = inr none
+  later_by (inr (inr (inr (i, was_held, is)))) = inl (begun (contents i), is, Begun sofar (begins i was_held))
 
 pub runs_are_sessions : RunsAreSessions
 runs_are_sessions seed seen answer it done told = held_well seed seen answer told done it
@@ -317,5 +331,70 @@ pub runs_may_close : RunsMayClose
 runs_may_close seed seen answer it told = held_shut seed seen answer told it
 
 pub runs_go_later : RunsGoLater
-runs_go_later seed seen answer it told from left sofar is_image has bytes there =
-    later_by seed seen from left sofar is_image has bytes there (held_shut seed seen answer told it)
+runs_go_later seed seen answer it told from (left, has, sofar) =
+    later_by seed seen from left sofar has (held_shut seed seen answer told it)
+
+-- RUNS, ONE AFTER THE OTHER
+
+abbrev IsGood : Option (List ℕ) → Type 0
+IsGood held = (held ≡ None) ⊎ ((rack : Rack) × HasLater (empty_contents rack) held)
+
+-- a desk that stays
+still_good : (desk : Transition (Option (List ℕ))) → desk.after ≡ desk.before → IsGood desk.before → IsGood desk.after
+still_good desk same good = subst IsGood (sym same) good
+
+-- a new archive
+made_good : (rack : Rack) (desk : Transition (Option (List ℕ))) (made : Result (Unit {0}) Stop) → IsImage (empty_contents rack) → Makes rack desk made → IsGood desk.before → IsGood desk.after
+made_good rack desk (Ok u) is makes good = inr (rack, (empty_contents rack, (makes.1, is), Same))
+made_good rack desk (Err stop.Exists) is makes good = still_good desk makes.1 good
+made_good rack desk (Err stop.NoMemory) is makes good = still_good desk makes good
+made_good rack desk (Err stop.DeskFault) is makes good = by (failed_by desk (empty_contents rack) is makes.1)
+  where
+    by : MayHave desk (empty_contents rack) → IsGood desk.after
+    by (inl same) = still_good desk same good
+    by (inr (inl new)) = inr (rack, (empty_contents rack, new, Same))
+    by (inr (inr none)) = inl none
+made_good rack desk (Err stop.Words) is makes good = absurd makes
+made_good rack desk (Err stop.SourceFault) is makes good = absurd makes
+made_good rack desk (Err (stop.BadLine number)) is makes good = absurd makes
+made_good rack desk (Err stop.NoImage) is makes good = absurd makes
+made_good rack desk (Err stop.Cut) is makes good = absurd makes
+made_good rack desk (Err (stop.Trailer kept computed)) is makes good = absurd makes
+made_good rack desk (Err (stop.Form place)) is makes good = absurd makes
+made_good rack desk (Err stop.Spent) is makes good = absurd makes
+made_good rack desk (Err stop.RoomFault) is makes good = absurd makes
+made_good rack desk (Err stop.TooWide) is makes good = absurd makes
+
+-- no session begins on a desk that has no image
+none_held : (seed : List ℕ) (seen : Seen) → seen.desk.before.held ≡ None → ClosedAs seed seen ⊎ NoneClosed (held_in seen.desk) → seen.desk.after.held ≡ None
+none_held seed seen none (inl c) = absurd (unheld c.read c.was_held)
+  where
+    unheld : (i : Image) → HoldsImage seen.desk.before.held i → ⊥
+    unheld i (bytes, is, answers) = absurd (cc (none, is))
+none_held seed seen none (inr (inl same)) = same ∙ none
+none_held seed seen none (inr (inr (inl gone))) = gone
+none_held seed seen none (inr (inr (inr (i, (bytes, is, answers), left)))) = absurd (cc (none, is))
+
+-- a session
+run_good : (seed : List ℕ) (seen : Seen) (answer : Status) → Holds seed seen answer → IsTrue seen.desk.tells → IsGood seen.desk.before.held → IsGood seen.desk.after.held
+run_good seed seen answer it told (inl none) = inl (none_held seed seen none (held_shut seed seen answer told it))
+run_good seed seen answer it told (inr (rack, later)) = by (runs_go_later seed seen answer it told (empty_contents rack) later)
+  where
+    by : HasLater (empty_contents rack) seen.desk.after.held ⊎ (seen.desk.after.held ≡ None) → IsGood seen.desk.after.held
+    by (inl more) = inr (rack, more)
+    by (inr none) = inl none
+
+-- any run
+next_good : (words : List Text) (drawn : List ℕ) (seen : Seen) (answer : Status) → Runs words drawn seen answer → IsTrue seen.desk.tells → IsGood seen.desk.before.held → IsGood seen.desk.after.held
+next_good words drawn seen answer (Nothing none unread refuses same room) told good = still_good (held_in seen.desk) (same told) good
+next_good words drawn seen answer (Short is unread sink same room) told good = still_good (held_in seen.desk) (same told) good
+next_good words drawn seen answer (calls.Makes rack spells unread inits room) told good = made_good rack (held_in seen.desk) inits.made inits.image (inits.makes told) good
+next_good words drawn seen answer (Drilling d spells drills same room) told good = still_good (held_in seen.desk) (same told) good
+next_good words drawn seen answer (Recovering r spells unread recovers same) told good = still_good (held_in seen.desk) (same told) good
+next_good words drawn seen answer (Auditing a spells unread audits same room) told good = still_good (held_in seen.desk) (same told) good
+next_good words drawn seen answer (Generating n spells unread generates same room) told good = still_good (held_in seen.desk) (same told) good
+next_good words drawn seen answer (Session that spelled it) told good = run_good (seed_of that drawn) seen answer it told good
+
+pub desks_stay_good : DesksStayGood
+desks_stay_good held Bare = inl refl
+desks_stay_good held (Next words drawn seen answer came runs told) = next_good words drawn seen answer runs told (desks_stay_good seen.desk.before.held came)

@@ -6,14 +6,15 @@ use Rattle.pot_words.specs.Tasks.{SpellTask}
 use Rattle.pot_words.specs.declared.run.Run.{Run}
 use Rattle.pot_words.specs.declared.task.Task.TheVariants as task
 use Rattle.pot_image.specs.declared.image.Image.{Image}
+use Rattle.pot_image.specs.Images.{Contents}
 use Rattle.pot_session.specs.declared.ending.status.Status.{Status}
 use Rattle.pot_session.specs.declared.ending.status.Status.TheVariants as status
 use Rattle.pot_session.specs.Calls.{Runs}
 use Rattle.pot_session.specs.Commands.{IsRead}
-use Rattle.pot_session.specs.Desks.{GoesOn, HoldsImage}
+use Rattle.pot_session.specs.Desks.{CanGoOn, GoesOn, HoldsImage}
 use Rattle.pot_session.specs.Runs.{Seen}
 use Rattle.pot_session.specs.Tasks.{seed_of}
-use Rattle.pot_promises.specs.Runs.{IsDone, RanAs}
+use Rattle.pot_promises.specs.Runs.{HasImage, IsDone, RanAs}
 
 -- the statuses that say that an object outside failed: a run gives each only where the object's
 -- count rose
@@ -40,5 +41,16 @@ RunsAreAnswered =
     → (given : List ℕ) → AsksSession words drawn given
     → (image : Image) → HoldsImage seen.desk.before.held image → GoesOn image
     → (steps : List Step) → IsRead image.rack seen.source steps
+    → (IsFault answer → ⊥) → (answer ≡ status.NoMemory → ⊥)
+    → IsDone answer × ((seed : List ℕ) × AsksSession words drawn seed × RanAs seed seen)
+
+-- The same over an image that a run left: it need not be said that it can be read.
+abbrev pub NextIsAnswered : Type 0
+NextIsAnswered =
+    (words : List Text) (drawn : List ℕ) (seen : Seen) (answer : Status)
+    → Runs words drawn seen answer → IsTrue seen.source.tells → IsTrue seen.desk.tells
+    → (given : List ℕ) → AsksSession words drawn given
+    → (left : Contents) → HasImage seen.desk.before.held left → CanGoOn left
+    → (steps : List Step) → IsRead left.rack seen.source steps
     → (IsFault answer → ⊥) → (answer ≡ status.NoMemory → ⊥)
     → IsDone answer × ((seed : List ℕ) × AsksSession words drawn seed × RanAs seed seen)

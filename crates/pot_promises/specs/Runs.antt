@@ -1,7 +1,11 @@
 -- What a run of the program is, and what it leaves on its desk.
-use Rattle.std.specs.Prelude.{◌≡◌, ◌⊎◌, ◌++◌, ℕ, IsTrue, List, Option, Some, None}
+use Rattle.std.specs.Prelude.{◌≡◌, ◌≢◌, ◌⊎◌, ◌++◌, ℕ, IsTrue, List, Option, Some, None}
+use Rattle.pot_bytes.specs.declared.rack.Rack.{Rack}
+use Rattle.pot_options.specs.Options.{Text}
+use Rattle.pot_words.specs.Tasks.{SpellTask}
+use Rattle.pot_words.specs.declared.run.Run.{Run}
+use Rattle.pot_words.specs.declared.task.Task.TheVariants as task
 use Rattle.pot_outside.specs.Accounts.{Transition, held_in}
-use Rattle.pot_outside.specs.Failing.{MayLeave}
 use Rattle.pot_script.specs.declared.grouping.Step.{Step}
 use Rattle.pot_script.specs.declared.reply.Reply.{Reply}
 use Rattle.pot_image.specs.declared.image.Image.{Image}
@@ -13,9 +17,15 @@ use Rattle.pot_commands.specs.Streams.{Wrote}
 use Rattle.pot_session.specs.declared.ending.status.Status.{Status}
 use Rattle.pot_session.specs.declared.ending.status.Status.TheVariants as status
 use Rattle.pot_session.specs.Commands.{IsRead}
+use Rattle.pot_session.specs.Calls.{Runs}
 use Rattle.pot_session.specs.Desks.{HoldsImage, begun}
+use Rattle.pot_session.specs.Making.{empty_contents}
 use Rattle.pot_session.specs.Runs.{Holds, Seen}
 use Rattle.pot_promises.specs.Chains.{IsSession, Begins, Later}
+
+-- The desk has this image, as it is written, and the image keeps the rules of images.
+abbrev pub HasImage : Option (List ℕ) → Contents → Type 0
+HasImage held v = (held ≡ Some (image_bytes v)) × IsImage v
 
 -- the statuses of a run whose commands were all answered
 abbrev pub IsDone : Status → Type 0
@@ -24,7 +34,8 @@ IsDone status.Refusals = Unit {0}
 IsDone _ = ⊥
 
 -- A session over the image that the desk held, with the steps that the source had: each has its
--- replies, what was written is their texts, and the desk holds the image that the session left.
+-- replies, what was written is their texts, and the desk has the image that the session left, which
+-- keeps the rules of images.
 pub record RanAs (seed : List ℕ) (seen : Seen) : Type 0 where
   pub read : Image
   pub was_held : HoldsImage seen.desk.before.held read
@@ -34,7 +45,7 @@ pub record RanAs (seed : List ℕ) (seen : Seen) : Type 0 where
   pub replies : List Reply
   pub session : IsSession seed (begun (contents read)) last steps replies
   pub written : Wrote seen.sink (texts_of replies)
-  pub left : seen.desk.after.held ≡ Some (image_bytes last)
+  pub left : HasImage seen.desk.after.held last
 
 -- What is told of a run of the program by its own contract: where the desk tells its image and the
 -- status is 0 or 1, it was such a session. So what is promised of sessions is promised of runs.
@@ -47,8 +58,8 @@ RunsAreSessions =
 
 -- A session over the image that the desk held, with the steps that the source had, which closed
 -- whatever ended them: the first of them have their replies, and what was written are first bytes
--- of the texts of these. The desk holds the image that the session left; or, where it failed or
--- memory ran out, the one with which the session began, or none.
+-- of the texts of these. The desk has the image that the session left; or, where it failed or
+-- memory ran out, the one with which the session began, or none. Each keeps the rules of images.
 pub record ClosedAs (seed : List ℕ) (seen : Seen) : Type 0 where
   pub read : Image
   pub was_held : HoldsImage seen.desk.before.held read
@@ -62,15 +73,16 @@ pub record ClosedAs (seed : List ℕ) (seen : Seen) : Type 0 where
   pub session : IsSession seed (begun (contents read)) last answered replies
   pub written : IsTrue seen.sink.tells
       → (more : List ℕ) × (seen.sink.before ++ texts_of replies ≡ seen.sink.after ++ more)
-  pub left : MayLeave (Some (image_bytes (begun (contents read)))) (image_bytes last)
-      seen.desk.after.held
+  pub left : HasImage seen.desk.after.held (begun (contents read))
+      ⊎ (HasImage seen.desk.after.held last ⊎ (seen.desk.after.held ≡ None))
 
--- No session closed: the desk holds what it held, the image with which the session began, or none.
+-- No session closed: the desk holds what it held, or has the image with which the session began, or
+-- none.
 abbrev pub NoneClosed : Transition (Option (List ℕ)) → Type 0
 NoneClosed desk =
     (desk.after ≡ desk.before) ⊎ ((desk.after ≡ None)
     ⊎ ((read : Image) × HoldsImage desk.before read
-    × (desk.after ≡ Some (image_bytes (begun (contents read))))))
+    × HasImage desk.after (begun (contents read))))
 
 -- Whatever its status, a run over a desk that tells its image was such a session, or none closed.
 abbrev pub RunsMayClose : Type 0
@@ -78,23 +90,46 @@ RunsMayClose =
     (seed : List ℕ) (seen : Seen) (answer : Status) → Holds seed seen answer
     → IsTrue seen.desk.tells → ClosedAs seed seen ⊎ NoneClosed (held_in seen.desk)
 
--- Where the desk held an image that keeps the rules of images, and holds one after a run, whatever
--- its status, that is the same one or a later one.
+-- the desk has an image to which sessions lead from this one
+abbrev pub HasLater : Contents → Option (List ℕ) → Type 0
+HasLater from held = (now : Contents) × HasImage held now × Later from now
+
+-- Where the desk had such an image, it has one after a run, whatever its status, or none.
 abbrev pub RunsGoLater : Type 0
 RunsGoLater =
     (seed : List ℕ) (seen : Seen) (answer : Status) → Holds seed seen answer
-    → IsTrue seen.desk.tells
-    → (from left : Contents) → Later from left → IsImage left
-    → seen.desk.before.held ≡ Some (image_bytes left)
-    → (bytes : List ℕ) → seen.desk.after.held ≡ Some bytes
-    → (now : Contents) × (bytes ≡ image_bytes now) × Later from now
+    → IsTrue seen.desk.tells → (from : Contents) → HasLater from seen.desk.before.held
+    → HasLater from seen.desk.after.held ⊎ (seen.desk.after.held ≡ None)
 
 -- THE NEXT RUN
 
--- Where a run left an image on its desk, and the image keeps the rules of images, the next run
--- begins with it.
+-- Where a run left an image on its desk, the next run begins with it.
 abbrev pub RunsGoOn : Type 0
 RunsGoOn =
-    (last : Contents) (held : Option (List ℕ)) (read : Image) → IsImage last
-    → held ≡ Some (image_bytes last) → HoldsImage held read
-    → Begins last (begun (contents read))
+    (last : Contents) (held : Option (List ℕ)) (read : Image) → HasImage held last
+    → HoldsImage held read → Begins last (begun (contents read))
+
+-- RUNS, ONE AFTER THE OTHER
+
+-- From a desk that has no image, by runs of the program, each over what the one before left,
+-- whatever each was asked for and however it ended, the desk came to hold this.
+pub data Came : Option (List ℕ) → Type 0 where
+  Bare : Came None
+  Next : (words : List Text) (drawn : List ℕ) (seen : Seen) (answer : Status)
+      → Came seen.desk.before.held → Runs words drawn seen answer → IsTrue seen.desk.tells
+      → Came seen.desk.after.held
+
+-- It has no image, or one to which sessions lead from that of a new archive.
+abbrev pub DesksStayGood : Type 0
+DesksStayGood =
+    (held : Option (List ℕ)) → Came held
+    → (held ≡ None) ⊎ ((rack : Rack) × HasLater (empty_contents rack) held)
+
+-- Where the desk has such an image, no run with the words of a session says that the desk holds
+-- none that can be read.
+abbrev pub NeverRefused : Type 0
+NeverRefused =
+    (words : List Text) (drawn : List ℕ) (seen : Seen) (answer : Status)
+    → Runs words drawn seen answer → IsTrue seen.desk.tells
+    → (left : Contents) → HasImage seen.desk.before.held left
+    → (run : Run) → SpellTask words (task.Run run) → answer ≢ status.ImageRefused

@@ -5,16 +5,19 @@
 //! `ensures` is its statement.
 //!
 //! 1. A run that ends with 0 or 1 is a session over the image that its desk held: each command, in
-//!    a batch too, has its replies, what is written is their texts, and the desk holds what the
-//!    session left; where that keeps the rules of images, the next run begins with it (`run_laws`).
+//!    a batch too, has its replies, what is written is their texts, and the desk has the image that
+//!    the session left, which keeps the rules of images; the next run begins with it (`run_laws`).
 //!    A run that ends otherwise is such a session too, as far as its steps came, if it closed at
 //!    all (`may_close`). Where words, image and script are in their grammars it ends so, unless an
-//!    object outside failed or memory ran out (`answered`).
+//!    object outside failed or memory ran out (`answered`), also over what a run left
+//!    (`next_answered`). From a desk without an image, by any runs one after the other, the desk has
+//!    none or one to which sessions lead from that of a new archive (`stay_good`); and no session
+//!    says of such an image that it can't be read (`never_refused`).
 //! 2. Where a command stored a file and a later one of the session fetched its name, the bytes are
 //!    the file (`file_laws`, `gives_back`).
 //! 3. So they are where the name was fetched in a later session, whatever sessions came in between,
 //!    each over the image that the one before left (`file_laws`, `gives_back_later`). Whatever its
-//!    status, a run leaves the image that its desk held, a later one so, or none (`go_later`).
+//!    status, a run leaves the image that its desk had, a later one so, or none (`go_later`).
 //! 4. Where a command stored a file, its job put the blocks that the stream of the seed, the
 //!    session and the job gives of it; and who sees fewer of them than are needed, of some fragment
 //!    of each piece, sees what every other file of that length gives as well (`veil_laws`).
@@ -37,7 +40,7 @@
 //! digest.
 #![tactic(auto)]
 
-ghost use Rattle.pot_promises.specs.Complete.{RunsAreAnswered};
+ghost use Rattle.pot_promises.specs.Complete.{NextIsAnswered, RunsAreAnswered};
 ghost use Rattle.pot_promises.specs.Faults.{FaultsAreCounted};
 ghost use Rattle.pot_promises.specs.Frames.{FrameOfRun};
 ghost use Rattle.pot_promises.specs.Lost.{LostIsFew};
@@ -45,7 +48,8 @@ ghost use Rattle.pot_promises.specs.Odds.{NeverOdd, OddReads};
 ghost use Rattle.pot_promises.specs.Openings.{OpeningsAreTrue};
 ghost use Rattle.pot_promises.specs.Promises.{GivesBack, GivesBackLater};
 ghost use Rattle.pot_promises.specs.Remaining.{BlocksRemain, OlderDeskFinds, ServedRemain};
-ghost use Rattle.pot_promises.specs.Runs.{RunsAreSessions, RunsGoLater, RunsGoOn, RunsMayClose};
+ghost use Rattle.pot_promises.specs.Runs.{DesksStayGood, NeverRefused, RunsAreSessions};
+ghost use Rattle.pot_promises.specs.Runs.{RunsGoLater, RunsGoOn, RunsMayClose};
 ghost use Rattle.pot_promises.specs.Veils.{StaysVeiled};
 
 /// What a run of the program is, and with what the next one begins. It does nothing.
@@ -54,7 +58,10 @@ pub fn run_laws()
     ensures may_close { RunsMayClose }
     ensures go_on { RunsGoOn }
     ensures go_later { RunsGoLater }
+    ensures stay_good { DesksStayGood }
+    ensures never_refused { NeverRefused }
     ensures answered { RunsAreAnswered }
+    ensures next_answered { NextIsAnswered }
 {}
 
 /// What a fetch gives of a file that was stored. It does nothing.

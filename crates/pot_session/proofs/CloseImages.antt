@@ -1,6 +1,7 @@
 -- The image of a close.
-use Rattle.std.proofs.Common.{◌≡◌, ◌+◌, ◌++◌, inl, inr, ℕ, List, [], ◌∷◌, length, map, refl, sym, ap, subst, ◌∙◌, arith}
-use Rattle.std.specs.Prelude.{Option, Some, Result, Ok, Err, IfErr, IsErr, IsErrOf, IsTrue, flat_map}
+use Rattle.std.proofs.Common.{◌≡◌, ◌<◌, ◌^◌, ◌+◌, ◌++◌, inl, inr, ℕ, List, [], ◌∷◌, length, map, refl, sym, ap, subst, ◌∙◌, arith}
+use Rattle.std.proofs.lemmas.List.Elements.{All-cons, All-head, All-nil, All-tail}
+use Rattle.std.specs.Prelude.{All, Option, Some, Result, Ok, Err, IfErr, IsErr, IsErrOf, IsTrue, flat_map}
 use Rattle.std.proofs.lemmas.Bool.{cases_lt}
 use Rattle.byteorder.specs.Endian.{big_bytes}
 use Rattle.pot_bytes.specs.Digests.{digest_bytes}
@@ -15,10 +16,11 @@ use Rattle.pot_machine.specs.Table.{Table}
 use Rattle.pot_index.specs.Records.{record_bytes}
 use Rattle.pot_shelves.specs.Shelves.{Shelves}
 use Rattle.pot_image.specs.Images.{Contents, magic}
+use Rattle.pot_image.specs.Rules.{HaveDigests, IsWhole}
 use Rattle.pot_image.specs.Spelling.{table_bytes, head_bytes, counted_bytes, entry_bytes, index_entry_bytes, field_bytes, text_bytes, image_bytes}
 use Rattle.pot_session.specs.declared.ending.stop.Stop.{Stop}
 use Rattle.pot_session.specs.declared.ending.stop.Stop.TheVariants as stop
-use Rattle.pot_session.specs.Desks.{Keeps, IsKeepStop}
+use Rattle.pot_session.specs.Desks.{IfWritten, Keeps, IsKeepStop}
 use Rattle.pot_rows.specs.Rows.{view_at}
 use Rattle.pot_rows.proofs.RowLemmas.{at_past}
 use Rattle.pot_replies.specs.Sessions.{ByNobody}
@@ -54,6 +56,40 @@ same_text v = ap (λ f. magic ++ big_bytes 4 2 ++ big_bytes 8 (48 + length f) ++
 pub same_image : (v : Contents) → image_bytes (record v { tables = map still v.tables }) ≡ image_bytes v
 unfolding image_bytes
 same_image v = ap (λ t. t ++ digest_bytes t) (same_text v)
+
+-- nor do their values change
+still_digests : (ts : List Table) → All HaveDigests ts → All HaveDigests (map still ts)
+still_digests [] all = All-nil HaveDigests
+still_digests (t ∷ ts) all = All-cons HaveDigests (still t) (map still ts) (All-head HaveDigests t ts all) (still_digests ts (All-tail HaveDigests t ts all))
+
+still_whole : (v : Contents) → IsWhole v → IsWhole (record v { tables = map still v.tables })
+still_whole v w = record {
+  values = record {
+    session = w.values.session;
+    digests = still_digests v.tables w.values.digests;
+    records = w.values.records;
+    group_logs = w.values.group_logs;
+    index_log = w.values.index_log;
+  };
+  short = subst (λ b. length b < 2 ^ 64) (sym (same_image v)) w.short;
+}
+
+-- what follows for an image follows if it was written
+pub if_written : {P Q : Type 0} (kept : Result (Unit {0}) Stop) → (P → Q) → IfWritten kept P → IfWritten kept Q
+if_written (Ok u) f p = f p
+if_written (Err stop.NoMemory) f p = tt
+if_written (Err stop.DeskFault) f p = f p
+if_written (Err stop.Words) f p = f p
+if_written (Err stop.SourceFault) f p = f p
+if_written (Err (stop.BadLine number)) f p = f p
+if_written (Err stop.NoImage) f p = f p
+if_written (Err stop.Cut) f p = f p
+if_written (Err (stop.Trailer kept computed)) f p = f p
+if_written (Err (stop.Form place)) f p = f p
+if_written (Err stop.Spent) f p = f p
+if_written (Err stop.Exists) f p = f p
+if_written (Err stop.RoomFault) f p = f p
+if_written (Err stop.TooWide) f p = f p
 
 -- THE ROOM
 
@@ -115,6 +151,8 @@ leaves_of read old new room missing first last opened b groups left found = reco
   opened = opened_by old opened;
   found = found;
   index_opened = ap (λ (v : IndexPass). v.seen) opened.index_first;
+  few = left.few;
+  put = left.put;
 }
 
 pub close_stop : (given : Result (Unit {0}) Failed) (kept : Result (Unit {0}) Stop) → IfErr kept IsKeepStop → IsCloseStop (first_failure given kept)
@@ -143,8 +181,8 @@ pub closes : {A : Type 0} (archives : Account A Meaning) (hand : List (Shelf A))
     → IsBegun first last.session last.rack read (records_read new.index) → last.rack ≡ rack → LeaveGroups (IsTrue archives.tells) meant.means (IsInHand archives.meaning hand) read last.group_logs (map still last.tables)
     → LeavesLogs old new rack last.group_logs last.index_log last.records
     → (IsTrue archives.tells → AreOpened meant.means (RoseInHand archives.meaning hand meant.means) first.tables (section_of old new))
-    → closed ≡ first_failure given kept → Closes old new (transition_by archives.tells meant means) worked.failures desk first closed
-closes archives hand meant worked means read old new rack desk first last given kept closed k which cause back opened b same groups left found is = record {
+    → closed ≡ first_failure given kept → IfWritten kept (IsWhole last) → Closes old new (transition_by archives.tells meant means) worked.failures desk first closed
+closes archives hand meant worked means read old new rack desk first last given kept closed k which cause back opened b same groups left found is whole = record {
   last = record last { tables = map still last.tables };
   sole = left.sole;
   missing = back.missing;
@@ -156,6 +194,7 @@ closes archives hand meant worked means read old new rack desk first last given 
       (λ t g u q. opened_as meant.means (RoseInHand archives.meaning hand meant.means) (RoseInRoom meant.means means.means back.missing) u ((section_of old new).before g)
       (rose_in_room archives hand meant.means worked means given back t) (found t g u q));
   kept = kept;
+  whole = if_written kept (still_whole last) whole;
   keeps = λ held. record {
     holds = λ t. subst (λ b. Keeps (since (held_in desk) (Some (image_bytes first))) b kept) (sym (same_image last)) (subst (λ h. Keeps (since (held_in desk) h) (image_bytes last) kept) (held t) (k t));
     which = which;

@@ -25,3 +25,8 @@ pub mod GenerateLemmas
 pub mod GivingLemmas
 pub mod FoundLemmas
 pub mod StripeLemmas
+pub mod LeftEntries
+pub mod LeftArchives
+pub mod LeftRecords
+pub mod LeftImage
+pub mod EmptyImage

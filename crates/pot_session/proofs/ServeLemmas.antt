@@ -1,6 +1,7 @@
 -- What passes know after steps, and how a session ends.
-use Rattle.std.proofs.Common.{◌≡◌, ◌<◌, ◌++◌, ◌⊎◌, inl, inr, ℕ, zero, suc, Bool, true, false, cond, List, [], ◌∷◌, length, refl, sym, ap, subst, ◌∙◌, arith}
+use Rattle.std.proofs.Common.{◌≡◌, ◌<◌, ◌≤◌, ◌+◌, ◌++◌, ◌⊎◌, inl, inr, ℕ, zero, suc, Bool, true, false, cond, List, [], ◌∷◌, length, refl, sym, ap, subst, ◌∙◌, arith}
 use Rattle.std.specs.Prelude.{All, Contains, IsTrue, Option, Some, IfSome, Result, Ok, Err, IsErrOf, slice_index_or, flat_map}
+use Rattle.pot_bytes.specs.Rack.{log_bound}
 use Rattle.pot_bytes.specs.declared.rack.Rack.{Rack}
 use Rattle.pot_bytes.specs.declared.rack.Place.{Place}
 use Rattle.pot_outside.specs.Accounts.{Content, Transition}
@@ -37,8 +38,12 @@ use Rattle.pot_session.specs.declared.ending.status.Status.{Status}
 use Rattle.pot_session.specs.declared.ending.status.Status.TheVariants as status
 use Rattle.pot_session.specs.declared.ending.stop.Stop.{Stop}
 use Rattle.pot_session.specs.declared.ending.stop.Stop.TheVariants as stop
-use Rattle.pot_shared.specs.Groups.{AreFirstPasses, IsFirstTable, table_read, tables_read, records_read}
+use Rattle.pot_shared.specs.Hands.{AreApart}
+use Rattle.pot_session.specs.Losses.{all_had}
+use Rattle.pot_shared.specs.Groups.{AreFirstPasses, AreLow, IsFirstTable, table_read, tables_read, records_read}
 use Rattle.pot_shared.proofs.Lists.{at_same}
+use Rattle.pot_session.proofs.CloseImages.{if_written}
+use Rattle.pot_session.proofs.LeftImage.{left_image}
 use Rattle.pot_session.proofs.LossLemmas.{lost_where_few}
 use Rattle.pot_session.specs.Serving.{Serves, Closed, Closes, IsCloseStop, IsEnd, OthersStay, setting_of, status_after}
 
@@ -147,8 +152,9 @@ pub serves_closed : (seed : List ℕ) (first : Contents) (steps : List Step) (ro
     (e : Ending) (worked : ℕ) (closed : Result (Unit {0}) Stop) (answer : Status) → AreFirstPasses old.groups old.index → tables_read old.groups ≡ first.tables → records_read old.index ≡ first.records → rack ≡ first.rack
     → session ≡ first.session → Ends rack seed session sink steps old new e → Fails room.before.failures worked (e ≡ ending.RoomFailed) → (closes : Closes old new room worked desk first closed)
     → (IsTrue desk.tells → desk.before.held ≡ Some (image_bytes first)) → (IsTrue room.tells → (e ≡ ending.RoomFailed → ⊥) → OthersStay first.tables closes.last.group_logs room.before.means room.after.means)
-    → answer ≡ status_after e closed → FitsTogether first → Serves seed first steps room sink desk answer
-serves_closed seed first steps room sink desk rack session old new e worked closed answer opened tables records same number ends fails closes kept others status fits = Closed (record {
+    → answer ≡ status_after e closed → FitsTogether first → length first.records + log_bound ≤ 4000000000
+    → AreApart (all_had first.tables closes.last.group_logs) → AreLow (all_had first.tables closes.last.group_logs) → Serves seed first steps room sink desk answer
+serves_closed seed first steps room sink desk rack session old new e worked closed answer opened tables records same number ends fails closes kept others status fits space apart low = Closed (record {
   last = closes.last;
   story = section_of old new;
   ending = e;
@@ -164,6 +170,7 @@ serves_closed seed first steps room sink desk rack session old new e worked clos
   lost = λ told back none. lost_where_few (IsTrue room.tells) seed first closes.last room.before.means room.after.means closes.missing told fits closes.leaves.groups back none;
   kept = closes.kept;
   keeps = closes.keeps kept;
+  image = if_written closes.kept (λ whole. left_image room closes.missing first closes.last (section_of old new) closes.leaves fits apart low whole space) closes.whole;
   status = status ∙ ap (λ r. status_after e r) closes.is;
 })
 

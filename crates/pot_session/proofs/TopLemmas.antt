@@ -8,7 +8,7 @@ use Rattle.pot_script.specs.declared.grouping.Step.{Step}
 use Rattle.pot_machine.specs.Table.{archives_in}
 use Rattle.pot_image.specs.declared.image.Image.{Image}
 use Rattle.pot_image.specs.Images.{Contents, contents}
-use Rattle.pot_image.specs.Rules.{FitsTogether}
+use Rattle.pot_image.specs.Rules.{IsImage}
 use Rattle.pot_session.specs.declared.ending.status.Status.{Status}
 use Rattle.pot_session.specs.declared.ending.status.Status.TheVariants as status
 use Rattle.pot_session.specs.declared.ending.stop.Stop.{Stop}
@@ -97,6 +97,7 @@ longer seed first steps room sink desk mid answer le (Closed c) = Closed (record
   others = c.others;
   lost = c.lost;
   kept = c.kept;
+  image = c.image;
   keeps = record {
     holds = c.keeps.holds;
     which = c.keeps.which;
@@ -113,7 +114,7 @@ pub served : (seed : List ℕ) (seen : Seen) (answer : Status) (image : Image) (
     → (IsTrue seen.source.tells → seen.source.after ≡ []) → used ≡ steps → Serves seed (contents image) used seen.room seen.sink (since seen.desk mid) answer → IsEnd answer
     → Untouched (flat_map archives_in image.tables.items ++ asked_by used) seen.room.before seen.room.after → seen.desk.before.faults ≤ mid.faults → Holds seed seen answer
 served seed seen answer image steps used mid p read same serves is untouched le =
-    Served p.read steps (record { goes_on = p.of.goes_on; image = p.of.image; script = p.of.script }) (subst FitsTogether p.is p.fits) read
+    Served p.read steps (record { goes_on = p.of.goes_on; image = p.of.image; script = p.of.script }) (subst IsImage p.is p.rules) read
     (subst (λ v. Serves seed v steps seen.room seen.sink seen.desk answer) p.is
     (subst (λ cs. Serves seed (contents image) cs seen.room seen.sink seen.desk answer) same
     (longer seed (contents image) used seen.room seen.sink seen.desk mid answer le serves))) is

@@ -1,19 +1,28 @@
 -- What a session reads from its desk and writes there.
-use Rattle.std.specs.Prelude.{◌≡◌, ◌<◌, ◌+◌, ◌-◌, ◌^◌, ℕ, List, [], Option, Some, None, Result, Ok}
-use Rattle.std.specs.Prelude.{Err, replicate, IsTrue}
+use Rattle.std.specs.Prelude.{◌≡◌, ◌⊎◌, ◌<◌, ◌≤◌, ◌+◌, ◌-◌, ◌^◌, ℕ, List, [], Option, Some, None}
+use Rattle.std.specs.Prelude.{Result, Ok, Err, length, replicate, IsTrue}
+use Rattle.pot_bytes.specs.Rack.{log_bound}
 use Rattle.pot_outside.specs.Accounts.{Transition}
 use Rattle.pot_outside.specs.Failing.{MayLeave}
 use Rattle.pot_image.specs.declared.image.Image.{Image}
 use Rattle.pot_image.specs.declared.fault.ImageFault.TheVariants as faults
-use Rattle.pot_image.specs.Images.{Contents, AnswersImage}
+use Rattle.pot_image.specs.Images.{Contents, AnswersImage, contents}
 use Rattle.pot_session.specs.declared.ending.stop.Stop.{Stop}
 use Rattle.pot_session.specs.declared.ending.stop.Stop.TheVariants as stop
 
 -- WHAT IS READ
 
--- One more session may begin: the number of the image's session is not the last one.
+-- One more session may begin: the number of the image's session is not the last one, and an image
+-- may have its records and all that a session can add to them.
+abbrev pub CanGoOn : Contents → Type 0
+CanGoOn v = (v.session < 2 ^ 32 - 1) × (length v.records + log_bound ≤ 4000000000)
+
 abbrev pub GoesOn : Image → Type 0
-GoesOn i = i.session < 2 ^ 32 - 1
+GoesOn i = CanGoOn (contents i)
+
+-- the image is that of the last session that there can be
+abbrev pub IsLast : Image → Type 0
+IsLast i = (i.session ≡ 2 ^ 32 - 1) ⊎ (4000000000 < length i.records.items + log_bound)
 
 -- why the bytes are no image from which a session may begin
 abbrev pub RefusesBytes : List ℕ → Stop → Type 0
@@ -21,7 +30,7 @@ RefusesBytes bytes stop.Cut = AnswersImage bytes (Err faults.Cut)
 RefusesBytes bytes (stop.Trailer kept computed) =
     AnswersImage bytes (Err (faults.Trailer kept computed))
 RefusesBytes bytes (stop.Form place) = AnswersImage bytes (Err (faults.Form place))
-RefusesBytes bytes stop.Spent = (i : Image) × AnswersImage bytes (Ok i) × (i.session ≡ 2 ^ 32 - 1)
+RefusesBytes bytes stop.Spent = (i : Image) × AnswersImage bytes (Ok i) × IsLast i
 RefusesBytes bytes stop.NoMemory = Unit {0}
 RefusesBytes bytes _ = ⊥
 
@@ -90,6 +99,12 @@ abbrev pub IsKeepStop : Stop → Type 0
 IsKeepStop stop.DeskFault = Unit {0}
 IsKeepStop stop.NoMemory = Unit {0}
 IsKeepStop _ = ⊥
+
+-- what is said of an image if its bytes were made: the desk took them, or failed over them
+abbrev pub IfWritten : Result (Unit {0}) Stop → Type 0 → Type 0
+IfWritten (Ok u) P = P
+IfWritten (Err stop.NoMemory) P = Unit {0}
+IfWritten (Err _) P = P
 
 -- The desk holds these bytes now. Where it failed it holds them, what it held before or nothing,
 -- and for want of memory what it held before.

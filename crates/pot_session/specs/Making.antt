@@ -7,6 +7,7 @@ use Rattle.pot_outside.specs.Accounts.{Transition}
 use Rattle.pot_outside.specs.Failing.{MayLeave}
 use Rattle.pot_machine.specs.Making.{empty_table}
 use Rattle.pot_image.specs.Images.{Contents}
+use Rattle.pot_image.specs.Rules.{IsImage}
 use Rattle.pot_image.specs.Spelling.{image_bytes}
 use Rattle.pot_commands.specs.Streams.{Wrote, WroteSome}
 use Rattle.pot_session.specs.declared.ending.status.Status.{Status}
@@ -53,10 +54,11 @@ InitAnswers sink (Ok u) answer =
     ⊎ ((answer ≡ status.SinkFault) × WroteSome sink (codes "ready\n"))
 InitAnswers sink (Err s) answer = Refuses sink s answer
 
--- what `init` comes to
+-- What `init` comes to. The image of a new archive keeps the rules of images.
 pub record Inits (rack : Rack) (desk : Transition (Option (List ℕ))) (sink : Transition (List ℕ))
     (answer : Status) : Type 0 where
   pub made : Result (Unit {0}) Stop
   pub makes : IsTrue desk.tells → Makes rack desk made
   pub which : IfErr made IsMakeStop
+  pub image : IsImage (empty_contents rack)
   pub answers : InitAnswers sink made answer

@@ -12,12 +12,12 @@ use Rattle.pot_session.specs.declared.ending.status.Status.{Status}
 use Rattle.pot_session.specs.declared.ending.stop.Stop.{Stop}
 use Rattle.pot_session.specs.Commands.{IsRead, RefusesScript}
 use Rattle.pot_session.specs.Desks.{GoesOn, HoldsImage, RefusesDesk, IsDeskStop, Keeps, IsKeepStop}
-use Rattle.pot_session.specs.Desks.{begun}
+use Rattle.pot_session.specs.Desks.{IfWritten, begun}
 use Rattle.pot_commands.specs.Holding.{Untouched}
 use Rattle.pot_commands.specs.Taking.{asked_by}
 use Rattle.pot_session.specs.Serving.{IsEnd, Serves}
 use Rattle.pot_session.specs.Stops.{Refuses}
-use Rattle.pot_image.specs.Rules.{FitsTogether}
+use Rattle.pot_image.specs.Rules.{IsImage}
 
 -- what a call met of the source, the sink, the desk and the room
 pub record Seen : Type 0 where
@@ -41,14 +41,14 @@ pub record IsOf (source : Transition (List ℕ)) (desk : Transition (Option (Lis
   pub image : IsTrue desk.tells → HoldsImage desk.before i
   pub script : IsRead i.rack source steps
 
--- a session may begin with this image and these steps: the image is on the desk, one session on
--- from the one that was read
+-- a session may begin with this image and these steps: the image keeps the rules of images and is on
+-- the desk, one session on from the one that was read
 pub record IsPrepared (source : Transition (List ℕ)) (desk : Transition (Option (List ℕ))) (image : Image)
     (steps : List Step) : Type 0 where
   pub read : Image
   pub of : IsOf source desk read steps
   pub is : contents image ≡ begun (contents read)
-  pub fits : FitsTogether (contents image)
+  pub rules : IsImage (contents image)
   pub kept : IsTrue desk.tells → desk.after ≡ Some (image_bytes (contents image))
 
 -- Why no session begins: the desk has no image from which one may; or the source has no script; or
@@ -59,19 +59,20 @@ pub data Stops (source : Transition (List ℕ)) (desk : Transition (Option (List
   AtScript : (i : Image) → GoesOn i → (IsTrue desk.tells → HoldsImage desk.before i)
       → RefusesScript i.rack source s → Stays desk → Stops source desk s
   AtOpening : (i : Image) (steps : List Step) → IsOf source desk i steps → IsKeepStop s
+      → IfWritten (Err s) (IsImage (begun (contents i)))
       → (IsTrue desk.tells → Keeps desk (image_bytes (begun (contents i))) (Err s))
       → Stops source desk s
 
 -- THE WHOLE
 
--- A session did not begin, and it is written why; or it began with the image that was read, whose
--- parts fit together, and ended so. Archives that neither this image names nor a step asks for were
+-- A session did not begin, and it is written why; or it began, one session on from the image that
+-- was read, with an image that keeps the rules of images, and ended so. Archives that neither this image names nor a step asks for were
 -- not touched.
 pub data Holds (seed : List ℕ) (seen : Seen) (answer : Status) : Type 0 where
   Stopped : (s : Stop) → Stops seen.source (held_in seen.desk) s → Refuses seen.sink s answer
       → MeansStay seen.room → Holds seed seen answer
   Served : (i : Image) (steps : List Step) → IsOf seen.source (held_in seen.desk) i steps
-      → FitsTogether (begun (contents i)) → (IsTrue seen.source.tells → seen.source.after ≡ [])
+      → IsImage (begun (contents i)) → (IsTrue seen.source.tells → seen.source.after ≡ [])
       → Serves seed (begun (contents i)) steps seen.room seen.sink seen.desk answer
       → IsEnd answer
       → Untouched (flat_map archives_in i.tables.items ++ asked_by steps) seen.room.before

@@ -1,7 +1,8 @@
 -- What a session leaves: the replies of its steps, and the image of its close with the logs by
 -- which they have them.
-use Rattle.std.specs.Prelude.{◌≡◌, ℕ, true, List, [], ◌∷◌, Option, Some, Result, Ok, Err, IfErr}
-use Rattle.std.specs.Prelude.{flat_map, if◌then◌else◌, map, slice_index_or, IsTrue}
+use Rattle.std.specs.Prelude.{◌≡◌, ◌≤◌, ℕ, true, List, [], ◌∷◌, Option, Some, Result, Ok, Err, IfErr}
+use Rattle.std.specs.Prelude.{flat_map, if◌then◌else◌, length, map, slice_index_or, IsTrue}
+use Rattle.pot_bytes.specs.Rack.{log_bound}
 use Rattle.pot_outside.specs.Accounts.{Content, Transition, Stays, held_in, since}
 use Rattle.pot_outside.specs.Archives.{Meaning, IsMeant}
 use Rattle.pot_outside.specs.Counts.{Caused}
@@ -16,6 +17,7 @@ use Rattle.pot_group.specs.Arrivals.{arrivals}
 use Rattle.pot_shelves.specs.Shelves.{Shelves}
 use Rattle.pot_script.specs.declared.grouping.Step.{Step}
 use Rattle.pot_image.specs.Images.{Contents}
+use Rattle.pot_image.specs.Rules.{IsImage, IsWhole}
 use Rattle.pot_image.specs.Spelling.{image_bytes}
 use Rattle.pot_replies.specs.Sections.{Section}
 use Rattle.pot_replies.specs.Sessions.{ByNobody}
@@ -35,10 +37,11 @@ use Rattle.pot_session.specs.declared.ending.status.Status.{Status}
 use Rattle.pot_session.specs.declared.ending.status.Status.TheVariants as status
 use Rattle.pot_session.specs.declared.ending.stop.Stop.{Stop}
 use Rattle.pot_session.specs.declared.ending.stop.Stop.TheVariants as stop
-use Rattle.pot_session.specs.Desks.{IsKeepStop, Keeps}
+use Rattle.pot_session.specs.Desks.{IfWritten, IsKeepStop, Keeps}
 use Rattle.pot_session.specs.Giving.{FailsAt, IsUnlent, IsUnopened}
 use Rattle.pot_shared.specs.Groups.{MarksRose}
-use Rattle.pot_shared.specs.Leaving.{AreLogs, AreOpened, LeaveGroups, LeavesRecords, Shows}
+use Rattle.pot_shared.specs.Leaving.{AreLogs, AreOpened, ArePut, LeaveGroups, LeavesRecords}
+use Rattle.pot_shared.specs.Leaving.{Shows}
 use Rattle.pot_session.specs.Losses.{AreBack, LostNone, LostWhereFew}
 use Rattle.pot_session.specs.Stops.{status_of}
 
@@ -55,8 +58,9 @@ RoseInRoom meant means missing n =
 
 -- The image that a session which began with the first one leaves. Its logs are those of the
 -- openings, which are of no job, rest on blocks that the room meant, and call a slot Gone whose
--- block the room meant only where a count of its archive rose; and then this section. `missing` has
--- the archives that the room did not take back.
+-- block the room meant only where a count of its archive rose; and then this section. That of the
+-- index is no longer than a log may be, and what came to it was put. `missing` has the archives
+-- that the room did not take back.
 pub record Leaves (room : Transition RoomState) (missing : List ℕ) (first last : Contents)
     (w : Section) : Type 0 where
   pub session : last.session ≡ first.session
@@ -71,6 +75,8 @@ pub record Leaves (room : Transition RoomState) (missing : List ℕ) (first last
       → AreOpened room.before.means (RoseInRoom room.before.means room.after.means missing)
       first.tables w
   pub index_opened : w.index_before ≡ []
+  pub few : length last.index_log ≤ log_bound
+  pub put : ArePut last.group_logs w.index_added
 
 -- THE CLOSE
 
@@ -100,6 +106,7 @@ pub record Closes (old new : Known) (room : Transition RoomState) (worked : ℕ)
   pub failed_at : FailsAt worked room.after.failures missing
   pub leaves : Leaves room missing first last (section_of old new)
   pub kept : Result (Unit {0}) Stop
+  pub whole : IfWritten kept (IsWhole last)
   pub keeps : (IsTrue desk.tells → desk.before.held ≡ Some (image_bytes first))
       → KeepsLast desk first last kept
   pub is : closed ≡ close_answer missing kept
@@ -155,7 +162,8 @@ OthersStay read logs meant means =
     → IsMeant (meant n) (means n)
 
 -- Steps were worked, and the session closed, whatever became of the steps. The image of the close
--- has the logs by which the steps have their replies. The room failed itself at the steps exactly
+-- keeps the rules of images, unless memory ran out over it, and has the logs by which the steps
+-- have their replies. The room failed itself at the steps exactly
 -- where they ended so, and in the close at each archive that is missing and at no other; `worked`
 -- is how often it had failed once the steps had ended.
 pub record IsClosed (seed : List ℕ) (first : Contents) (steps : List Step) (room : Transition RoomState)
@@ -176,6 +184,7 @@ pub record IsClosed (seed : List ℕ) (first : Contents) (steps : List Step) (ro
       → LostWhereFew (setting_of seed first) last.group_logs
   pub kept : Result (Unit {0}) Stop
   pub keeps : KeepsLast desk first last kept
+  pub image : IfWritten kept (IsImage last)
   pub status : answer ≡ status_after ending (close_answer missing kept)
 
 -- What a session comes to that begins with this image: before any step was worked the room did not

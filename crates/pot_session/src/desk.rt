@@ -5,16 +5,20 @@ ghost use Rattle.std.specs.Prelude.{replicate};
 ghost use Rattle.pot_outside.specs.Accounts.{Faults, Stays, transition};
 ghost use Rattle.pot_image.specs.Images.{contents};
 ghost use Rattle.pot_image.specs.Spelling.{IsCountable, image_bytes};
-ghost use Rattle.pot_image.specs.Rules.{FitsTogether};
+ghost use Rattle.pot_image.specs.Rules.{FitsTogether, IsWhole};
 ghost use Rattle.pot_session.specs.Desks.{Opens, OpensDesk, ReadsDesk, IsImageIn, IsImageStop};
-ghost use Rattle.pot_session.specs.Desks.{IsDeskStop, begun, Keeps, IsKeepStop};
+ghost use Rattle.pot_session.specs.Desks.{IsDeskStop, begun, IfWritten, Keeps, IsKeepStop};
 
 use crate::ending::stop::Stop;
-use pot_bytes::NoMemory;
+use pot_bytes::{LOG_BOUND, NoMemory};
 use pot_image::{Image, ImageFault, read_image, write_image};
 use pot_machine::Entry;
 use pot_outside::{Desk, DeskFault, Failed};
 use std::alloc::Global;
+
+/// The most records of an image from which a session may begin. A session adds at most one for
+/// each entry of its index's log, and an image has at most 4,000,000,000.
+const MOST_RECORDS: usize = 4_000_000_000 - LOG_BOUND;
 
 /// The image that the bytes are.
 fn image_in(alloc: Global, bytes: &[u8]) -> Result<Image, Stop>
@@ -61,6 +65,9 @@ fn open_image(alloc: Global, bytes: &[u8]) -> Result<Image, Stop>
     if image.session == u32::MAX {
         return Err(Stop::Spent);
     }
+    if image.records.len() > MOST_RECORDS {
+        return Err(Stop::Spent);
+    }
     Ok(image)
 }
 
@@ -68,7 +75,8 @@ fn open_image(alloc: Global, bytes: &[u8]) -> Result<Image, Stop>
 ///
 /// # Errors
 /// `DeskFault` only where the desk's count of faults rose; `NoImage` where the desk has none; else
-/// why its bytes are no image, or that no number of a session is left.
+/// why its bytes are no image, or that no number of a session is left, or no room for the records
+/// of one.
 pub(crate) fn open_desk<D: Desk>(alloc: Global, desk: &mut D) -> Result<Image, Stop>
     ensures opens { OpensDesk (transition D.account desk.old desk.new) result }
     ensures fits { IfOk result (λ i. FitsTogether (contents i)) }
@@ -127,6 +135,7 @@ pub(crate) fn begin(alloc: Global, image: Image) -> Result<Image, NoMemory>
 pub(crate) fn keep_image<D: Desk>(alloc: Global, image: &Image, desk: &mut D) -> Result<(), Stop>
     requires { IsCountable image.now }
     ensures which { IfErr result IsKeepStop }
+    ensures whole { IfWritten result (IsWhole (contents image.now)) }
     ensures told { IsTrue D.account.tells
         → Keeps (transition D.account desk.old desk.new) (image_bytes (contents image.now)) result }
     ensures cause { Faults D.account desk.old desk.new (IsErrOf result Stop.DeskFault) }

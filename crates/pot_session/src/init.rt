@@ -6,6 +6,7 @@ ghost use Rattle.pot_machine.specs.Making.{empty_table};
 ghost use Rattle.pot_outside.specs.Accounts.{Faults, transition};
 ghost use Rattle.pot_bytes.specs.Rack.{IsRack};
 ghost use Rattle.pot_image.specs.Images.{contents};
+ghost use Rattle.pot_image.specs.Rules.{IsImage};
 ghost use Rattle.pot_image.specs.Spelling.{image_bytes};
 ghost use Rattle.pot_session.specs.Desks.{IsKeepStop, Keeps};
 ghost use Rattle.pot_session.specs.Making.{empty_contents, Makes, IsMakeStop, Inits};
@@ -81,6 +82,12 @@ pub(crate) fn make_image<D: Desk>(alloc: Global, rack: &Rack, desk: &mut D) -> R
     }
 }
 
+/// The image of a new archive keeps the rules of images. It does nothing.
+fn empty_image_law(rack: &Rack)
+    requires { IsRack rack.now }
+    ensures { IsImage (empty_contents rack.now) }
+{}
+
 /// Makes a new archive on a desk that has no image, and writes `ready`.
 pub(crate) fn init<K: Sink, D: Desk>(
     alloc: Global,
@@ -94,6 +101,7 @@ pub(crate) fn init<K: Sink, D: Desk>(
     ensures desk { Faults D.account desk.old desk.new (result ≡ Status.DeskFault) }
     ensures sink { Faults K.account sink.old sink.new (result ≡ Status.SinkFault) }
 {
+    empty_image_law(rack);
     match make_image(alloc, rack, desk) {
         Ok(()) => match write_out(sink, b"ready\n") {
             Ok(()) => Status::Good,

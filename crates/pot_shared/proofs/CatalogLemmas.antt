@@ -34,7 +34,7 @@ use Rattle.pot_rows.specs.Ties.{RowTied}
 use Rattle.pot_shared.specs.Members.{entries_of}
 use Rattle.pot_shared.specs.Ready.{GroupPasses, AreReady, IsOrigin}
 use Rattle.pot_shared.specs.Seen.{SeesPut, SeesFile, RowKnowsMore}
-use Rattle.pot_shared.specs.Catalogs.{AreTold, CatalogView, KeepsSeen, Publishes}
+use Rattle.pot_shared.specs.Catalogs.{AreFirstSplits, AreTold, CatalogView, KeepsSeen, Publishes}
 
 -- SEEN
 
@@ -137,6 +137,14 @@ small_told s t (inr (e, is)) told = subst AreTold (sym is) (λ r has. elim (told
   | inr put ↦ inr (publishes_more s.log (plain e) r put)
 ])
 
+-- and published with one split
+small_once : (s t : IndexView) → IsSmall s t → AreFirstSplits s.log → AreFirstSplits t.log
+small_once s t (inl e) once = subst (λ (i : IndexView). AreFirstSplits i.log) (sym e) once
+small_once s t (inr (e, is)) once = subst (λ (i : IndexView). AreFirstSplits i.log) (sym is) (λ job name mark r has. elim (contains_last s.log (plain e) (bringing (entry.Publish job name mark) r) has) [
+  | inl h ↦ once job name mark r h
+  | inr same ↦ absurd (brings_none e (entry.Publish job name mark) r same)
+])
+
 -- an index whose kept passes did nothing
 pub keeps_small : (s t : IndexView) (kept : GroupPasses) → IsSmall s t → KeepsSeen (record { index = s; kept = kept }) → KeepsSeen (record { index = t; kept = kept })
 keeps_small s t kept small keeps =
@@ -147,6 +155,7 @@ keeps_small s t kept small keeps =
       kept = keeps.kept;
       seen = (λ r p. keeps.seen r (small_publishes s t small r p));
       told = small_told s t small keeps.told;
+      once = small_once s t small keeps.once;
     }
 
 -- TWO ROWS THAT ARE TIED
@@ -183,6 +192,7 @@ module _ (rack : Rack) (names : List TurnName) (mine kept mine' kept' : GroupPas
           kept = (λ g lt. (let q = keeps.kept g (omega (arith, lt, long)) in let o = (tied g).other in (o.parts ∙ q.0, o.turns ∙ q.1, o.joined ∙ q.2, o.made ∙ q.3)));
           seen = (λ r p. file_more kept kept' long (λ g lt. (tied g).other.seen) r (keeps.seen r p));
           told = keeps.told;
+          once = keeps.once;
         }
 
     -- the kept passes have seen the puts that the caller had
@@ -198,11 +208,15 @@ contains_end (x ∷ xs) y = (let h = contains_end xs y in (suc h.0, omega (arith
 same_record : (e f : IndexEntry) (r o : Record) → bringing e r ≡ bringing f o → r ≡ o
 same_record e f r o is = (let same : Some r ≡ Some o = ap (λ (x : Logged). x.brought) is in cc)
 
+same_entry : (e f : IndexEntry) (r o : Record) → bringing e r ≡ bringing f o → e ≡ f
+same_entry e f r o is = ap (λ (x : Logged). x.entry) is
+
 -- an entry that brings a record whose puts the kept passes have seen
 keeps_brought : (s : IndexView) (e : IndexEntry) (r : Record) (t : IndexView) (kept : GroupPasses) → t ≡ logged s (bringing e r)
     → ((o : Record) → Contains (after s.now (bringing e r)).published o → (r ≡ o) ⊎ Contains s.now.published o) → SeesFile kept r
+    → ((job : ℕ) (name : List ℕ) (mark : Digest) → e ≡ entry.Publish job name mark → r.older ≡ [])
     → KeepsSeen (record { index = s; kept = kept }) → KeepsSeen (record { index = t; kept = kept })
-keeps_brought s e r t kept is from seen keeps = subst (λ (i : IndexView). KeepsSeen (record { index = i; kept = kept })) (sym is) (record {
+keeps_brought s e r t kept is from seen first keeps = subst (λ (i : IndexView). KeepsSeen (record { index = i; kept = kept })) (sym is) (record {
   groups = keeps.groups;
   ready = keeps.ready;
   kept = keeps.kept;
@@ -217,12 +231,16 @@ keeps_brought s e r t kept is from seen keeps = subst (λ (i : IndexView). Keeps
       | inr put ↦ inr (publishes_more s.log (bringing e r) o put)
     ]
   ]);
+  once = (λ job name mark o has. elim (contains_last s.log (bringing e r) (bringing (entry.Publish job name mark) o) has) [
+    | inl h ↦ keeps.once job name mark o h
+    | inr same ↦ subst (λ (x : Record). x.older ≡ []) (same_record e (entry.Publish job name mark) r o same) (first job name mark (same_entry e (entry.Publish job name mark) r o same))
+  ]);
 })
 
-pub keeps_published : (s : IndexView) (job : ℕ) (r : Record) (t : IndexView) (kept : GroupPasses) → t ≡ published_by s job r → SeesFile kept r
+pub keeps_published : (s : IndexView) (job : ℕ) (r : Record) (t : IndexView) (kept : GroupPasses) → t ≡ published_by s job r → SeesFile kept r → r.older ≡ []
     → KeepsSeen (record { index = s; kept = kept }) → KeepsSeen (record { index = t; kept = kept })
-keeps_published s job r t kept is seen keeps =
-    keeps_brought s (entry.Publish job r.name (mark_of r)) r t kept is (λ o has. inserted_from r o s.now.published has) seen keeps
+keeps_published s job r t kept is seen once keeps =
+    keeps_brought s (entry.Publish job r.name (mark_of r)) r t kept is (λ o has. inserted_from r o s.now.published has) seen (λ j n m e. once) keeps
 
 -- A NEW SPLIT
 
@@ -247,7 +265,7 @@ pub keeps_renewed : (s : IndexView) (job : ℕ) (name : List ℕ) (split : Split
 keeps_renewed s job name split (Ok u) t kept r is_index (o, of, (room, few, is)) here seen keeps =
     let q = renewed o split in
     keeps_brought s (entry.Renew job name (mark_of q)) q t kept is (λ p has. replaced_from q p s.now.published has)
-    (subst (λ (x : Record). SeesFile kept (renewed x split)) (one_of s name r o is_index here of) seen) keeps
+    (subst (λ (x : Record). SeesFile kept (renewed x split)) (one_of s name r o is_index here of) seen) (λ j n m e. absurd (cc e)) keeps
 keeps_renewed s job name split (Err renew_fault.LogFull) t kept r is_index (o, of, (full, is)) here seen keeps = keeps_small s t kept (inl is) keeps
 keeps_renewed s job name split (Err renew_fault.TooOften) t kept r is_index (o, of, (room, many, is)) here seen keeps = keeps_small s t kept (inr (_, is)) keeps
 keeps_renewed s job name split (Err renew_fault.NoMemory) t kept r is_index (o, of, (room, few, is)) here seen keeps = keeps_small s t kept (inl is) keeps

@@ -1,11 +1,15 @@
 -- What a vault that ended leaves: its records, its tables, and the archives of its groups.
-use Rattle.std.proofs.Common.{◌≡◌, ◌<◌, ◌≤◌, ◌^◌, ◌+◌, inl, inr, ⊎_elim, ℕ, zero, suc, List, [], ◌∷◌, length, map, refl, sym, ap, subst, ◌∙◌, arith, get_or}
-use Rattle.std.specs.Prelude.{Some, None, All, Contains, slice_get, flat_map}
+use Rattle.std.proofs.Common.{◌≡◌, ◌<◌, ◌≤◌, ◌^◌, ◌+◌, ◌++◌, inl, inr, ⊎_elim, ℕ, zero, suc, List, [], ◌∷◌, length, map, refl, sym, ap, subst, ◌∙◌, arith, get_or}
+use Rattle.std.specs.Prelude.{Some, None, All, Contains, option_map, slice_get, slice_index_or, flat_map}
 use Rattle.std.proofs.lemmas.List.{length-map}
 use Rattle.std.proofs.lemmas.List.Elements.{Contains-append_cases}
-use Rattle.std.proofs.lemmas.Option.{slice_get_within}
+use Rattle.std.proofs.lemmas.Option.{slice_get-map, slice_get_within}
+use Rattle.pot_bytes.specs.Digests.{digest_of}
+use Rattle.pot_bytes.specs.Rack.{log_bound}
+use Rattle.pot_bytes.specs.declared.digest.Digest.{Digest}
+use Rattle.pot_bytes.specs.declared.rack.Place.{Place}
 use Rattle.pot_bytes.specs.declared.rack.Rack.{Rack}
-use Rattle.pot_bytes.proofs.Elements.{contains_front, element_of_map}
+use Rattle.pot_bytes.proofs.Elements.{contains_front, element_at, element_of_map}
 use Rattle.pot_outside.specs.Archives.{Meaning}
 use Rattle.pot_outside.specs.Counts.{Rose}
 use Rattle.pot_outside.specs.declared.archive.Marks.{Marks}
@@ -25,12 +29,14 @@ use Rattle.pot_shared.proofs.Takings.{blocks_same}
 use Rattle.pot_shelves.specs.Shelves.{numbers_of, shelf_of, given, plain}
 use Rattle.pot_shelves.proofs.ShelfLemmas.{rose_more}
 use Rattle.pot_index.proofs.RecordLaws.{few_published}
+use Rattle.pot_shard.specs.FileBlocks.{file_blocks}
 use Rattle.pot_turn.specs.declared.name.TurnName.{TurnName}
 use Rattle.pot_worked.specs.WroteOnlyFor.{added}
 use Rattle.pot_rows.specs.Rows.{view_at}
 use Rattle.pot_shared.specs.Members.{entries_of, kept_log, opened_at, origin_of, taking_at}
 use Rattle.pot_shared.specs.Ready.{GroupPass, GroupPasses, AreReady}
 use Rattle.pot_shared.specs.Catalogs.{IndexPasses, IsIndexReady, records_in}
+use Rattle.pot_shared.specs.Seen.{SeesPut}
 use Rattle.pot_shared.specs.Sharing.{Ends}
 use Rattle.pot_shared.specs.Works.{Known, known, gained, section_of}
 use Rattle.pot_shared.specs.Going.{AllOnlyWriters}
@@ -38,12 +44,13 @@ use Rattle.pot_shared.specs.Hands.{times, AreApart}
 use Rattle.pot_shared.proofs.Times.{times-append}
 use Rattle.pot_shared.specs.Coming.{AreMarkedBy, came_in, marks_of, taking_of}
 use Rattle.pot_shared.specs.Groups.{AreServed, AreEnded, AreLow, AreTakenAt, HasMarks, HasTaken, HaveCome, IsOpened, MarksRose, RoseBy, had_by, tables_read, records_read}
-use Rattle.pot_shared.specs.Leaving.{AreOpened, AreWithin, IsInHand, RoseInHand, LeavesRecords, LeavesLogs, LeaveGroups, still}
+use Rattle.pot_shared.specs.Leaving.{AreOpened, ArePut, AreWithin, IsInHand, IsPutAt, RoseInHand, LeavesRecords, LeavesLogs, LeaveGroups, still}
 use Rattle.pot_shared.proofs.Lists.{same_at, flat_contains}
 use Rattle.pot_shared.proofs.GroupLemmas.{find_shelf}
 use Rattle.pot_shared.proofs.CloseLemmas.{closed_firsts, closed_kept, closed_log, closed_story, its_came, members_of, opened_none, sole_all}
 use Rattle.pot_shared.proofs.ComingLemmas.{came_marked, came_of, few_archives}
 use Rattle.pot_shared.proofs.LeavingWords.{leave_groups, opened_as}
+use Rattle.pot_shared.proofs.MemberLemmas.{entries_all, entries_append}
 
 -- THE INDEX
 
@@ -52,8 +59,11 @@ pub few_records : (s : IndexView) (records : List Record) → IsIndex s → reco
 few_records s records is e =
     (let n = ap length e in let m = few_published s.rack (names_read s.read) s.now s.log is.replays in let few = is.read.few in let room = is.room in omega (arith, n, m, few, room))
 
+at_most : (s : IndexView) (log : List IndexEntry) → IsIndex s → log ≡ entries s.log → length log ≤ log_bound
+at_most s log is e = (let n = ap length e in let m = length-map s.log (λ x. x.entry) in let room = is.room in omega (arith, n, m, room))
+
 pub few_entries : (s : IndexView) (log : List IndexEntry) → IsIndex s → log ≡ entries s.log → length log < 2 ^ 32
-few_entries s log is e = (let n = ap length e in let m = length-map s.log (λ x. x.entry) in let room = is.room in omega (arith, n, m, room))
+few_entries s log is e = (let n = at_most s log is e in omega (arith, n))
 
 -- THE GROUPS
 
@@ -104,6 +114,26 @@ module _ {M : Type 0} (see : M → GroupView) (rack : Rack) (names turn : List T
     is = er;
   })
 
+  -- what the kept passes have seen stands in the logs
+  seen_logged : (logs : List (List Entry)) → logs ≡ map (λ m. (see m).log) ms → (p : Place) (d : Digest) → SeesPut e.kept p d → IsPutAt logs p
+  seen_logged logs eg p d (lt, (job, put, kept, has)) =
+      let within : p.group < length ms = (let a = ap length e.kept_names in let b = e.closed.count in let c = ap length e.whole_of.0 in omega (arith, lt, a, b, c)) in
+      let m = element_at ms p.group within in
+      let its = (e.joined p.group).its_begins in
+      let whole : (see m.0).log ≡ entries_of (view_at e.kept p.group).seen ++ entries_of its.0 =
+      sym (entries_all (see m.0).shelves (see m.0).log) ∙ (ap entries_of ((e.closed.each p.group m.0 m.1).seen ∙ its.1) ∙ entries_append (view_at e.kept p.group).seen its.0) in (
+        (see m.0).log,
+        subst (λ ls. slice_get ls p.group ≡ Some (see m.0).log) (sym eg) (slice_get-map (λ x. (see x).log) ms p.group ∙ ap (option_map (λ x. (see x).log)) m.1),
+        (job, d, put, kept, subst (λ l. Contains l put) (sym whole) (contains_front (entries_of (view_at e.kept p.group).seen) (entries_of its.0) put has)),
+      )
+
+  -- so what came to the index was put
+  are_put : (logs : List (List Entry)) → logs ≡ map (λ m. (see m).log) ms → ArePut logs (added (view_at old.index 0) (view_at passes 0))
+  are_put logs eg = subst (ArePut logs) (closed_story see rack names turn groups passes ms ended ready index_ready old s e) (record {
+    puts = λ r brought b p at. (let f = e.seen r brought in seen_logged logs eg p (digest_of (slice_index_or (file_blocks r.geometry f.file f.random) b [])) (f.puts b p at));
+    once = e.once;
+  })
+
   -- what the vault leaves
   pub closed_leaves : (logs : List (List Entry)) (log : List IndexEntry) (records : List Record) → logs ≡ map (λ m. (see m).log) ms → log ≡ entries ended.log → records ≡ ended.now.published
       → LeavesLogs old (known groups passes) rack logs log records
@@ -112,6 +142,8 @@ module _ {M : Type 0} (see : M → GroupView) (rack : Rack) (names turn : List T
     are_logs = λ n l q. (let m = element_of_map (λ m. (see m).log) ms n l (subst (λ ls. slice_get ls n ≡ Some l) eg q) in
         sym m.2 ∙ closed_log see rack names turn groups passes ms ended ready index_ready old s e n m.0 m.1);
     records = closed_records log records el er;
+    few = at_most ended log e.is_index el;
+    put = are_put logs eg;
   }
 
 -- WHAT THE GROUPS LEAVE

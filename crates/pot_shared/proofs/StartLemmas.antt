@@ -5,6 +5,8 @@ use Rattle.std.proofs.lemmas.List.{length-map}
 use Rattle.std.proofs.lemmas.Option.{slice_get-map, slice_get_cases, slice_get_within, get_or_from_slice_get, same_Some}
 use Rattle.pot_group.specs.Group.{GroupView}
 use Rattle.pot_bytes.specs.declared.rack.Rack.{Rack}
+use Rattle.pot_index.specs.declared.entry.IndexEntry.TheVariants as entry
+use Rattle.pot_index.specs.Entries.{bringing}
 use Rattle.pot_index.specs.Index.{IndexView, Names, IsIndex, Replays, names_read}
 use Rattle.pot_turn.specs.declared.name.TurnName.{TurnName}
 use Rattle.pot_turn.specs.Views.{first_view, cut_view, spent_view, stretches_of}
@@ -34,6 +36,7 @@ keeps_first rack names old kept index ready of new same log is_index count = rec
   seen = (λ r p. absurd (let q = subst (λ l. Publishes l r) log p in let lt = q.1.1 in omega (arith, lt)));
   told = (λ r has. (let now : index.now ≡ names_read index.read = subst (λ l. Replays index.rack (names_read index.read) l index.now) log is_index.replays in
       inl (subst (λ (n : Names). Contains n.published r) now has)));
+  once = (λ job name mark r has. absurd (let q = subst (λ l. Contains l (bringing (entry.Publish job name mark) r)) log has in let lt = q.1 in omega (arith, lt)));
 }
 
 -- THE FIRST PASSES

@@ -1,8 +1,10 @@
 -- What the contracts see of an index under its turn, with the passes that it keeps.
 use Rattle.std.specs.Prelude.{◌≡◌, ◌<◌, ◌⊎◌, ℕ, List, [], false, Option, IfSome, Contains, length}
 use Rattle.std.specs.Prelude.{Some, None}
+use Rattle.pot_bytes.specs.declared.digest.Digest.{Digest}
 use Rattle.pot_bytes.specs.declared.rack.Rack.{Rack}
 use Rattle.pot_index.specs.declared.entry.IndexEntry.{IndexEntry}
+use Rattle.pot_index.specs.declared.entry.IndexEntry.TheVariants as entry
 use Rattle.pot_index.specs.declared.entry.Logged.{Logged}
 use Rattle.pot_index.specs.declared.record.Record.{Record}
 use Rattle.pot_index.specs.Entries.{bringing}
@@ -23,6 +25,12 @@ pub record CatalogView : Type 0 where
 abbrev pub Publishes : List Logged → Record → Type 0
 Publishes log r = (e : IndexEntry) × Contains log (bringing e r)
 
+-- a record is published with one split: it gets a further one by a renewal alone
+abbrev pub AreFirstSplits : List Logged → Type 0
+AreFirstSplits log =
+    (job : ℕ) (name : List ℕ) (mark : Digest) (r : Record)
+    → Contains log (bringing (entry.Publish job name mark) r) → r.older ≡ []
+
 -- each record that is published was read, or an entry of the log brought it
 abbrev pub AreTold : IndexView → Type 0
 AreTold s = (r : Record) → Contains s.now.published r → Contains s.read r ⊎ Publishes s.log r
@@ -32,13 +40,15 @@ abbrev pub IsKept : GroupPass → Type 0
 IsKept v = (v.parts ≡ 2) × (v.turns ≡ []) × (v.joined ≡ []) × (v.made ≡ 0)
 
 -- The kept passes are of all groups, have two parts and never called, and have seen the puts of the
--- current split of each record that an entry brought; every other record was read.
+-- current split of each record that an entry brought; every other record was read. A record that
+-- was published has no other split.
 pub record KeepsSeen (c : CatalogView) : Type 0 where
   pub groups : length c.kept.names ≡ c.index.rack.groups
   pub ready : AreReady c.index.rack c.kept.names c.kept
   pub kept : (g : ℕ) → g < length c.kept.names → IsKept (view_at c.kept g)
   pub seen : (r : Record) → Publishes c.index.log r → SeesFile c.kept r
   pub told : AreTold c.index
+  pub once : AreFirstSplits c.index.log
 
 -- what never changes of it
 abbrev pub origin_of : CatalogView → CatalogOrigin

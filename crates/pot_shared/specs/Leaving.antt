@@ -1,12 +1,16 @@
 -- What a vault leaves when it ends: the table and the log of each group, the records and the log of
 -- the index, and all archives.
-use Rattle.std.specs.Prelude.{◌≡◌, ◌⊎◌, ◌<◌, ◌^◌, All, Contains, ◌++◌, ℕ, List, [], Some, length}
-use Rattle.std.specs.Prelude.{slice_get}
+use Rattle.std.specs.Prelude.{◌≡◌, ◌⊎◌, ◌<◌, ◌≤◌, ◌^◌, All, Contains, ◌++◌, ℕ, List, [], Some}
+use Rattle.std.specs.Prelude.{length, slice_get}
 use Rattle.pot_outside.specs.Archives.{Meaning}
 use Rattle.pot_outside.specs.Counts.{Rose}
 use Rattle.pot_outside.specs.declared.archive.Shelf.{Shelf}
+use Rattle.pot_bytes.specs.declared.digest.Digest.{Digest}
+use Rattle.pot_bytes.specs.declared.rack.Place.{Place}
 use Rattle.pot_bytes.specs.declared.rack.Rack.{Rack}
+use Rattle.pot_bytes.specs.Rack.{log_bound}
 use Rattle.pot_machine.specs.declared.entry.Entry.{Entry}
+use Rattle.pot_machine.specs.Logs.{IsKeptPut}
 use Rattle.pot_machine.specs.Table.{Table}
 use Rattle.pot_group.specs.Group.{GroupView, IsSettled}
 use Rattle.pot_group.specs.Frames.{FailedBy, WrittenBy}
@@ -20,6 +24,7 @@ use Rattle.pot_index.specs.Entries.{entries}
 use Rattle.pot_index.specs.Index.{Names, names_read}
 use Rattle.pot_index.specs.Index as names
 use Rattle.pot_replies.specs.Sections.{Section}
+use Rattle.pot_shared.specs.Catalogs.{AreFirstSplits, Publishes}
 use Rattle.pot_shared.specs.Coming.{marks_of}
 use Rattle.pot_shared.specs.Going.{AllOnlyWriters}
 use Rattle.pot_shared.specs.Groups.{HasMarks, HasTaken, IsOpened, MarksRose, had_by, records_read}
@@ -126,11 +131,28 @@ abbrev pub AreOpened : (ℕ → Meaning) → (ℕ → Type 0) → List Table →
 AreOpened meant Rises read w =
     (g : ℕ) (t : Table) → slice_get read g ≡ Some t → IsOpened meant Rises t (w.before g)
 
+-- such a Put at this place stands in the log of its group
+abbrev pub IsPutAt : List (List Entry) → Place → Type 0
+IsPutAt logs p =
+    (log : List Entry) × (slice_get logs p.group ≡ Some log)
+    × ((job : ℕ) × (d : Digest) × (e : Entry) × IsKeptPut job p.stripe p.column d e
+    × Contains log e)
+
+-- The logs have a Put at each place of the current split of each record that came to the index. One
+-- that was published has no other split.
+pub record ArePut (logs : List (List Entry)) (story : List Logged) : Type 0 where
+  pub puts : (r : Record) → Publishes story r → (b : ℕ) (p : Place)
+      → slice_get r.places b ≡ Some p → IsPutAt logs p
+  pub once : AreFirstSplits story
+
 -- What a vault leaves whose passes knew and know this: nobody else logged anything meanwhile, and
--- its logs are what the passes saw.
+-- its logs are what the passes saw. That of the index has no more entries than a log may have, and
+-- what came to the index was put.
 pub record LeavesLogs (old new : Known) (rack : Rack) (logs : List (List Entry))
     (log : List IndexEntry) (written : List Record) : Type 0 where
   pub sole : AllOnlyWriters old new
   pub are_logs : AreLogs logs (section_of old new)
   pub records : LeavesRecords rack (records_read new.index) (section_of old new).index_added log
       written
+  pub few : length log ≤ log_bound
+  pub put : ArePut logs (section_of old new).index_added

@@ -14,7 +14,7 @@ use Rattle.pot_shared.specs.declared.member.GroupOrigin.{GroupOrigin}
 use Rattle.pot_shared.specs.Members.{kept_log, origin_of as group_origin}
 use Rattle.pot_shared.specs.Ready.{GroupPasses, IsTableOf}
 use Rattle.pot_shared.specs.Seen.{SeesFile}
-use Rattle.pot_shared.specs.Catalogs.{IndexPass, IsKept, Publishes}
+use Rattle.pot_shared.specs.Catalogs.{AreFirstSplits, IndexPass, IsKept, Publishes}
 
 -- each pass is as it was
 abbrev pub SameAt : {E O : Type 0} → PassRow E O → PassRow E O → Type 0
@@ -41,6 +41,7 @@ pub record Ends {A : Type 0} (log_of : A → List Logged) (origin_of_group : A �
   pub joined : RowJoined groups kept whole
   pub closed : RowClosed log_of origin_of_group whole members
   pub seen : (r : Record) → Publishes ended.log r → SeesFile kept r
+  pub once : AreFirstSplits ended.log
   pub is_index : IsIndex ended
   pub index_rack : ended.rack ≡ rack
   pub index_closed : Closed ended.log (record { rack = rack; read = ended.read; names = names })

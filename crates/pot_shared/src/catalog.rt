@@ -1,5 +1,5 @@
 //! The index as a value under a turn, with a pass of each group that it keeps.
-ghost use Rattle.std.specs.Prelude.{◌≡◌, Any};
+ghost use Rattle.std.specs.Prelude.{◌≡◌, [], Any};
 ghost use Rattle.pot_rows.specs.Rows.{HasMoreParts};
 ghost use Rattle.pot_index.specs.Calls.{Reserves, Finds, ListsNames, Renews};
 ghost use Rattle.pot_index.specs.Entries.{entries, IsReserving};
@@ -133,7 +133,7 @@ impl<A: Archive> Catalog<A> {
         Ok(())
     }
 
-    /// Publishes a record whose puts the caller has seen, as `Index::publish`. The kept passes have
+    /// Publishes a record of one split whose puts the caller has seen, as `Index::publish`. The kept passes have
     /// then seen them too.
     ///
     /// # Errors
@@ -151,6 +151,7 @@ impl<A: Archive> Catalog<A> {
         requires reserved { Any (IsReserving job kept.name) (entries self.old.index.log) }
         requires fits { FitsRack self.old.index.rack kept }
         requires seen { SeesFile passes.old kept }
+        requires once { kept.older ≡ [] }
         ensures call { PublishesRecord job kept result self.old.index self.new.index }
         ensures names { self.new.kept.names ≡ self.old.kept.names }
         ensures tied { RowKnowsMore passes.old passes.new }

@@ -1,5 +1,5 @@
 //! The locked calls of the index.
-ghost use Rattle.std.specs.Prelude.{◌≡◌};
+ghost use Rattle.std.specs.Prelude.{◌≡◌, []};
 ghost use Rattle.pot_rows.specs.Rows.{HasMoreParts};
 ghost use Rattle.pot_index.specs.Fits.{FitsRack};
 
@@ -92,7 +92,7 @@ impl<A: Archive> Vault<A> {
         answer
     }
 
-    /// Publishes a record whose puts the passes have seen, in one turn of the index.
+    /// Publishes a record of one split whose puts the passes have seen, in one turn of the index.
     ///
     /// # Errors
     /// `ReservationLost` exactly where the name is not reserved by the job when the turn is had;
@@ -111,6 +111,7 @@ impl<A: Archive> Vault<A> {
         requires reserved { HasReserved job kept.name passes.old.index }
         requires fits { FitsRack self.now.rack kept }
         requires seen { SeesFile passes.old.groups kept }
+        requires once { kept.older ≡ [] }
         ensures index { IsIndexReady self.now.rack self.now.groups self.now.index passes.new.index }
         ensures ready { AreReady self.now.rack self.now.groups passes.new.groups }
         ensures groups { RowKnowsMore passes.old.groups passes.new.groups }
@@ -220,7 +221,7 @@ impl<'v, A: Archive, R: Wait> Connection<'v, A, R> {
         vault.abandon(rt, &mut self.passes, job, name)
     }
 
-    /// Publishes a record whose puts the passes have seen, as `Vault::publish`.
+    /// Publishes a record of one split whose puts the passes have seen, as `Vault::publish`.
     ///
     /// # Errors
     /// `ReservationLost` exactly where the name is not reserved by the job when the turn is had;
@@ -229,6 +230,7 @@ impl<'v, A: Archive, R: Wait> Connection<'v, A, R> {
         requires reserved { HasReserved (job_of self.old) kept.name (knows self.old).index }
         requires fits { FitsRack (rack_of self.old) kept }
         requires seen { SeesFile (knows self.old).groups kept }
+        requires once { kept.older ≡ [] }
         ensures { InTied (λ b row. IndexCall (PublishesRecord b.job kept result)) self.old self.new }
     {
         let (rt, vault, job) = (self.rt, self.vault, self.job);

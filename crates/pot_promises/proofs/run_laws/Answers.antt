@@ -1,5 +1,5 @@
-use Rattle.pot_promises.proofs.Answering.{runs_are_answered}
-use Rattle.pot_promises.proofs.Running.{runs_are_sessions, runs_go_later, runs_go_on, runs_may_close}
+use Rattle.pot_promises.proofs.Answering.{never_refused, next_is_answered, runs_are_answered}
+use Rattle.pot_promises.proofs.Running.{desks_stay_good, runs_are_sessions, runs_go_later, runs_go_on, runs_may_close}
 use Rattle.pot_promises.proofs.run_laws.Goals as goal
 
 pub returns : goal.returns
@@ -8,5 +8,8 @@ returns c = record {
   may_close = runs_may_close;
   go_on = runs_go_on;
   go_later = runs_go_later;
+  stay_good = desks_stay_good;
+  never_refused = never_refused;
   answered = runs_are_answered;
+  next_answered = next_is_answered;
 }

@@ -23,7 +23,7 @@ pub enum Status {
     ImageRefused,
     /// The room failed, or an archive that `recover` read.
     RoomFault,
-    /// No number is left for a session.
+    /// No number is left for a session, or no room for its records.
     SessionSpent,
     /// A new archive was asked for, and the desk holds an image.
     ImageExists,

@@ -28,7 +28,8 @@ pub enum Stop {
     Trailer { kept: Digest, computed: Digest },
     /// The field of the image at this place breaks its rule or does not end.
     Form { place: u64 },
-    /// The image is that of the last session that there can be.
+    /// The image is that of the last session that there can be: its number is the last one, or
+    /// its records leave no room for those of one more.
     Spent,
     /// The desk holds an image already.
     Exists,

@@ -1,11 +1,12 @@
 //! A session from the taking of its archives to its close.
 
-ghost use Rattle.std.specs.Prelude.{◌≡◌, ◌<◌, ◌≤◌, ◌++◌, ◌^◌, IsTrue, IfOk, OnOk, OnErr};
+ghost use Rattle.std.specs.Prelude.{◌≡◌, ◌<◌, ◌≤◌, ◌+◌, ◌++◌, ◌^◌, IsTrue, IfOk, OnOk, OnErr};
 ghost use Rattle.std.specs.Prelude.{IsErr, IsErrOf, Some, length, flat_map};
 ghost use Rattle.std.specs.List.{AllByRecursion};
 ghost use Rattle.pot_outside.specs.Accounts.{Faults, transition, whole_transition};
 ghost use Rattle.pot_outside.specs.Rooms.{IsHome, room_transition};
 ghost use Rattle.pot_outside.specs.Counts.{Caused};
+ghost use Rattle.pot_bytes.specs.Rack.{log_bound};
 ghost use Rattle.pot_image.specs.Images.{contents};
 ghost use Rattle.pot_image.specs.Spelling.{image_bytes};
 ghost use Rattle.pot_image.specs.Rules.{FitsTogether};
@@ -178,6 +179,7 @@ pub(crate) fn serve<K: Sink, R: Room, D: Desk, W: Gate, X: Threads + Wait + Sync
     desk: &mut D,
 ) -> Status
     requires together { FitsTogether (contents image) }
+    requires space { length image.records.items + log_bound ≤ 4000000000 }
     requires few { next_job steps.now ≤ 2 ^ 31 }
     requires workers { 0 < staff.now.workers }
     requires worked { AllByRecursion (IsWholeStep image.rack) steps.now }

@@ -1,7 +1,8 @@
-use Rattle.std.proofs.Common.{◌≡◌, ◌++◌, flat_map, take, length}
+use Rattle.std.proofs.Common.{◌≡◌, ◌++◌, All, flat_map, take, length}
 use Rattle.byteorder.specs.Endian.{big_bytes}
+use Rattle.pot_image.specs.Rules.{FitsIndexEntry}
 use Rattle.pot_image.specs.Spelling.{index_entry_bytes}
 use Rattle.pot_image.proofs.image_writing.append_index_log.Given as goal
 
 abbrev pub invariant-loop-entry : goal.invariant-loop-entry
-invariant-loop-entry l = l.out.items ≡ (l.fn.out.items ++ big_bytes 4 (length l.entries)) ++ flat_map index_entry_bytes (take l.entry-index l.entries)
+invariant-loop-entry l = (l.out.items ≡ (l.fn.out.items ++ big_bytes 4 (length l.entries)) ++ flat_map index_entry_bytes (take l.entry-index l.entries)) × All FitsIndexEntry (take l.entry-index l.entries)

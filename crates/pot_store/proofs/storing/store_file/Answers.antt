@@ -53,6 +53,9 @@ publish-requires-clause-seen g c =
     (sees_there c.args.name.now c.args.file.now c.args.connection.now c.reserve.new.self c.put_all.new.connection c.in-Ok.field-0 c.in-Ok.ensures c.put_all.ensures.worked
     c.args.pads c.in_ok-pieces.field-0.pieces c.in_ok-pieces.field-0.shards c.rack-rack.result.now.geometry c.in_ok-pieces.field-0.drawing c.in_ok-pieces.field-0.places.items (ap (λ (r : Rack). r.geometry) c.rack-rack.ensures) c.in_ok-pieces.ensures.planned c.put_all.new.places.items c.in-Ok-put_all.ensures.put (λ i. (c.type_inv.file i).fits))
 
+pub publish-requires-clause-once : goal.publish-requires-clause-once
+publish-requires-clause-once g c = ap (λ (r : Record). r.older) c.record_of-kept.ensures
+
 pub returns-in-Ok-publish-clause-worked : goal.returns-in-Ok-publish-clause-worked
 returns-in-Ok-publish-clause-worked g c =
     published_worked c.args.name.now c.args.file.now c.args.connection.now c.reserve.new.self c.put_all.new.connection c.in-Ok.field-0 c.in-Ok.ensures c.put_all.ensures.worked

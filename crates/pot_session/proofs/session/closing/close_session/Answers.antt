@@ -48,7 +48,7 @@ returns-clause-closes g c s is =
     c.give_hand-given.result c.keep_image-kept.result _ c.keep_image-kept.ensures.told c.keep_image-kept.ensures.which c.keep_image-kept.ensures.cause c.give_hand-given.ensures.back is.served.served.opened is.begun c.requires.rack
     (c.end-tables.ensures.groups s.old s.room.means is.served) (c.end-tables.ensures.logs s.old is.served.served)
     (λ told g t q. c.end-tables.ensures.opened s.old s.room.means is.served told g t (ap (λ ts. slice_get ts g) (sym is.begun.are_tables) ∙ q))
-    c.first_failure.ensures
+    c.first_failure.ensures c.keep_image-kept.ensures.whole
 
 pub returns-clause-which : goal.returns-clause-which
 returns-clause-which g c = subst IsCloseStop (sym c.first_failure.ensures) (close_stop c.give_hand-given.result c.keep_image-kept.result c.keep_image-kept.ensures.which)

@@ -1,6 +1,8 @@
-use Rattle.std.proofs.Common.{◌≤◌, ◌^◌, refl, ap, sym, subst}
+use Rattle.std.proofs.Common.{◌≤◌, ◌+◌, ◌^◌, List, length, refl, ap, sym, subst}
 use Rattle.std.specs.List.{AllByRecursion}
+use Rattle.pot_bytes.specs.Rack.{log_bound}
 use Rattle.pot_bytes.specs.declared.rack.Rack.{Rack}
+use Rattle.pot_index.specs.declared.record.Record.{Record}
 use Rattle.pot_image.specs.Images.{Contents}
 use Rattle.pot_commands.specs.Ends.{next_job}
 use Rattle.pot_script.specs.Steps.{IsWholeStep}
@@ -25,3 +27,11 @@ serve-requires-clause-worked g c = λ bounds within.
 pub serve-requires-clause-few : goal.serve-requires-clause-few
 serve-requires-clause-few g c = λ bounds within.
     subst (λ ss. next_job ss ≤ 2 ^ 31) (sym c.deref.ensures.value) (jobs_numbered c.in-Ok.field-0.steps.items c.in-Ok.ensures.prepared.of.script.few)
+
+pub serve-requires-clause-together : goal.serve-requires-clause-together
+serve-requires-clause-together g c = λ bounds within. c.in-Ok.ensures.prepared.rules.together
+
+pub serve-requires-clause-space : goal.serve-requires-clause-space
+serve-requires-clause-space g c = λ bounds within.
+    let p = c.in-Ok.ensures.prepared in
+    subst (λ (rs : List Record). length rs + log_bound ≤ 4000000000) (sym (ap (λ (v : Contents). v.records) p.is)) p.of.goes_on.1

@@ -3,9 +3,11 @@ use Rattle.std.specs.Prelude.{Err}
 use Rattle.pot_outside.specs.Accounts.{transition, transition_by}
 use Rattle.pot_image.specs.Images.{contents}
 use Rattle.pot_image.specs.Spelling.{image_bytes}
-use Rattle.pot_session.specs.Desks.{Keeps, begun}
+use Rattle.pot_image.specs.Rules.{IsImage}
+use Rattle.pot_session.specs.Desks.{IfWritten, Keeps, begun}
 use Rattle.pot_session.specs.Runs.{AtScript, AtOpening}
-use Rattle.pot_session.proofs.BeginLemmas.{begun_fits, begun_countable}
+use Rattle.pot_session.proofs.BeginLemmas.{begun_image, begun_countable}
+use Rattle.pot_session.proofs.CloseImages.{if_written}
 use Rattle.pot_session.proofs.session.preparing.prepare.Goals as goal
 
 pub keep_image-requires : goal.keep_image-requires
@@ -19,12 +21,14 @@ returns-in-Ok-keep_image-clause-prepared g c = record {
   read = c.in-Ok.read;
   of = record { goes_on = c.in-Ok.ensures.opens.0; image = c.in-Ok.ensures.opens.1; script = c.in-Ok-read_steps.ensures.script };
   is = c.in_ok-image.ensures;
-  fits = begun_fits (contents c.in-Ok.read) (contents c.in_ok-image.image) c.in_ok-image.ensures c.in-Ok.ensures.fits;
+  rules = begun_image (contents c.in-Ok.read) (contents c.in_ok-image.image) c.in_ok-image.ensures c.in-Ok.ensures.fits c.in-Ok-keep_image.ensures.whole;
   kept = c.in-Ok-keep_image.ensures.told;
 }
 
 pub returns-in-Err-keep_image-clause-stops : goal.returns-in-Err-keep_image-clause-stops
 returns-in-Err-keep_image-clause-stops g c =
     AtOpening c.in-Ok.read c.in-Ok-read_steps.steps.items (record { goes_on = c.in-Ok.ensures.opens.0; image = c.in-Ok.ensures.opens.1; script = c.in-Ok-read_steps.ensures.script }) c.in-Err-keep_image.ensures.which
+    (subst (λ v. IfWritten (Err c.in-Err-keep_image.stop) (IsImage v)) c.in_ok-image.ensures
+    (if_written (Err c.in-Err-keep_image.stop) (begun_image (contents c.in-Ok.read) (contents c.in_ok-image.image) c.in_ok-image.ensures c.in-Ok.ensures.fits) c.in-Err-keep_image.ensures.whole))
     (λ t. subst (λ h. Keeps (transition_by g.D.Desk.account.tells h (g.D.Desk.account.meaning c.keep_image.new.desk).held) (image_bytes (begun (contents c.in-Ok.read))) (Err c.in-Err-keep_image.stop)) (c.open_desk.ensures.keeps t)
     (subst (λ v. Keeps (transition g.D.Desk.account c.open_desk.new.desk c.keep_image.new.desk) (image_bytes v) (Err c.in-Err-keep_image.stop)) c.in_ok-image.ensures (c.in-Err-keep_image.ensures.told t)))

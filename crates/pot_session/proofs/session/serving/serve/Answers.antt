@@ -1,4 +1,4 @@
-use Rattle.std.proofs.Common.{◌≡◌, ◌++◌, IsTrue, List, length, sym, ap, subst, ◌∙◌}
+use Rattle.std.proofs.Common.{◌≡◌, ◌++◌, IsTrue, List, length, sym, ap, subst, ◌∙◌, arith}
 use Rattle.std.specs.Prelude.{flat_map}
 use Rattle.std.specs.List.{AllByRecursion}
 use Rattle.pot_bytes.specs.declared.rack.Rack.{Rack}
@@ -17,6 +17,8 @@ use Rattle.pot_shared.specs.Remains.{HasSpace}
 use Rattle.pot_session.specs.Serving.{IsEnd}
 use Rattle.pot_session.proofs.Counts.{caused_both, caused_fails, caused_second}
 use Rattle.pot_session.proofs.FoundLemmas.{came_since}
+use Rattle.pot_session.proofs.LeftImage.{had_numbers}
+use Rattle.pot_session.proofs.OutLemmas.{out_apart}
 use Rattle.pot_session.proofs.LendLemmas.{first_used, have_come, home_after, image_low, low_after, marks_before, means_after, none_before_asked, none_first, out_after, still_meant}
 use Rattle.pot_session.proofs.WorkLemmas.{are_worked, asked_low}
 use Rattle.pot_session.proofs.ServeLemmas.{but_kept_parts, all_parts, has_filled, same_read, same_records, still_but_kept, still_all, serves_closed, end_of, sink_failed, room_failed, desk_failed}
@@ -89,6 +91,13 @@ returns-clause-serves g c =
     let names : length c.in-Ok.opened.passes.groups.names ≡ c.args.image.rack.groups =
     ap length c.in-Ok.ensures.opened.vault.can_call.ready.of.0 ∙ (c.in-Ok.ensures.opened.vault.can_call.count ∙ ap (λ (r : Rack). r.groups) c.in-Ok.ensures.opened.vault.is_rack) in
     let long : length closes.last.group_logs ≡ length c.in-Ok.opened.passes.groups.names = closes.leaves.groups.count_logs ∙ (c.requires.together.tables.count ∙ sym names) in
+    let numbers = (flat_map archives_in c.args.image.tables.items) ++ c.work-ending.ensures.took.taken in
+    let same = same_read _ _ _ _ c.in-Ok.ensures.opened.vault.can_call.ready c.work-ending.ensures.can.ready c.work-ending.ensures.stays.groups ∙ c.in-Ok.ensures.opened.vault.are_tables in
+    let come = have_come (IsTrue g.R.A.Archive.account.tells) _ (asked_by c.args.steps.now) (g.R.Room.meaning c.open_session.new.room) (g.R.Room.meaning c.work-ending.new.room) (known c.in-Ok.opened.passes.groups c.in-Ok.opened.passes.index) (known c.work-ending.new.passes.groups c.work-ending.new.passes.index) c.work-ending.ensures.took.taken c.work-ending.ensures.took.takes c.work-ending.ensures.took.come (flat_map archives_in c.args.image.tables.items) c.in-Ok.ensures.out (ap (flat_map archives_in) same) in
+    let outs = out_after (IsTrue g.R.A.Archive.account.tells) _ (asked_by c.args.steps.now) (g.R.Room.meaning c.open_session.new.room) (g.R.Room.meaning c.work-ending.new.room) (known c.in-Ok.opened.passes.groups c.in-Ok.opened.passes.index) (known c.work-ending.new.passes.groups c.work-ending.new.passes.index) c.work-ending.ensures.took.taken c.work-ending.ensures.took.takes c.work-ending.ensures.took.come (flat_map archives_in c.args.image.tables.items) c.in-Ok.ensures.out in
+    let lows = low_after (IsTrue g.R.A.Archive.account.tells) _ (asked_by c.args.steps.now) (g.R.Room.meaning c.open_session.new.room) (g.R.Room.meaning c.work-ending.new.room) (known c.in-Ok.opened.passes.groups c.in-Ok.opened.passes.index) (known c.work-ending.new.passes.groups c.work-ending.new.passes.index) c.work-ending.ensures.took.taken c.work-ending.ensures.took.takes c.work-ending.ensures.took.come (flat_map archives_in c.args.image.tables.items) c.in-Ok.ensures.out (image_low (contents c.args.image) c.requires.together) (asked_low c.args.image.rack c.args.steps.now c.requires.worked) in
+    let came = came_since (known c.in-Ok.opened.passes.groups c.in-Ok.opened.passes.index) (known c.work-ending.new.passes.groups c.work-ending.new.passes.index) closes.last.group_logs c.in-Ok.ensures.opened.vault.first closes.leaves.logs long in
+    let had = had_numbers (known c.in-Ok.opened.passes.groups c.in-Ok.opened.passes.index) (known c.work-ending.new.passes.groups c.work-ending.new.passes.index) numbers (contents c.args.image).tables closes.last.group_logs come closes.sole same came in
     serves_closed c.args.staff.now.host.seed.now (contents c.args.image) c.args.steps.now
     (room_transition g.R.A.Archive.account g.R.Room.meaning c.args.room.now c.close_session-closed.new.room) _
     (whole_transition g.D.Desk.account c.args.desk.now c.close_session-closed.new.desk) _ _ (known c.in-Ok.opened.passes.groups c.in-Ok.opened.passes.index) (known c.work-ending.new.passes.groups c.work-ending.new.passes.index) c.work-ending.result
@@ -98,7 +107,8 @@ returns-clause-serves g c =
     told well closes.sole n none (sym (came_since (known c.in-Ok.opened.passes.groups c.in-Ok.opened.passes.index) (known c.work-ending.new.passes.groups c.work-ending.new.passes.index) closes.last.group_logs c.in-Ok.ensures.opened.vault.first closes.leaves.logs long n) ∙ unbrought) in
     subst (λ m. IsMeant m ((g.R.Room.meaning c.close_session-closed.new.room).means n)) (c.open_session.ensures.untouched n none)
     (subst (λ m. IsMeant ((g.R.Room.meaning c.open_session.new.room).means n) m) (sym (c.close_session-closed.ensures.untouched n still.0)) still.1)))
-    c.status_after.ensures c.requires.together
+    c.status_after.ensures c.requires.together c.requires.space
+    (λ n. (let e = had n in let one = out_apart (g.R.Room.meaning c.work-ending.new.room) numbers outs n in omega (arith, e, one))) (λ n lt. had n ∙ lows n lt)
 
 pub returns-clause-which : goal.returns-clause-which
 returns-clause-which g c = subst IsEnd (sym c.status_after.ensures) (end_of c.work-ending.result c.close_session-closed.result c.close_session-closed.ensures.which)

@@ -24,6 +24,7 @@ returns g c =
       joined = c.join.ensures.joined;
       closed = c.close-2.ensures.closed;
       seen = c.catalog.invariant.seen;
+      once = c.catalog.invariant.once;
       is_index = subst (λ (v : CatalogView). IsIndex v.index) (sym c.catalog.view_is) c.rules.ensures;
       index_rack = ap (λ (v : CatalogView). v.index.rack) c.catalog.view_is ∙ is.0;
       index_closed = subst (λ (v : CatalogView). Closed v.index.log (record { rack = c.self.inside.rack; read = v.index.read; names = c.self.inside.groups.names }) (view_at c.passes.inside.index 0)) (sym c.catalog.view_is) one;
