@@ -1,7 +1,7 @@
 //! A long file that is put together from its parts.
 
 use crate::goal::Goal;
-use crate::keeping::NewFile;
+use crate::new_file::NewFile;
 use crate::stop::Stop;
 use crate::visit::Visit;
 use pot_bytes::Name;
@@ -31,8 +31,8 @@ impl Standing {
     }
 }
 
-/// A file that is put together. Its parts come in their order and are written beside its name, and it
-/// gets that as a whole.
+/// A file that is put together. Its parts come in their order and are written beside its name, and
+/// it gets that as a whole.
 #[derive(Drop)]
 pub struct Joined {
     list: Manifest,

@@ -1,17 +1,36 @@
-//! Where archives lie, and copies of the desk.
+//! `place`: where archives lie, and archives that are brought elsewhere.
 
-use crate::keeping::{put_file, sync_folder_of};
-use crate::looking::{archive_name, image, image_bytes};
-use crate::stop::Stop;
-use crate::telling::tell_archives;
-use crate::visit::{Visit, listed_archives};
-use clap::ArgMatches;
+use crate::commands::status::tell_archives;
+use crate::words::command;
+use clap::{Arg, ArgAction, ArgMatches};
+use pots_vault::{
+    Stop, Visit, archive_name, image, listed_archives, put_file, sync_folder_of,
+};
+use std::alloc::{AllocError, Global};
 use std::io::ErrorKind;
 use std::os::unix::fs::symlink;
 use std::{fs, io};
 
+/// Its words.
+pub fn words<'a>(alloc: Global) -> Result<clap::Command<'a>, AllocError> {
+    let about =
+        "Tell where each archive lies, or copy archives to another folder and leave links to them";
+    command(alloc, "place", about)?
+        .arg(
+            Arg::new(alloc, "ARCHIVES")
+                .action(ArgAction::Set)
+                .requires_arg("FOLDER")?
+                .help("The numbers of the archives, as 0-3"),
+        )?
+        .arg(
+            Arg::new(alloc, "FOLDER")
+                .action(ArgAction::Set)
+                .help("Where they are to lie"),
+        )
+}
+
 /// Tells where archives lie, or copies some of them to a folder and leaves links.
-pub fn place(visit: &mut Visit, words: &ArgMatches) -> Result<u8, Stop> {
+pub fn work(visit: &mut Visit, words: &ArgMatches) -> Result<u8, Stop> {
     let image = image(visit)?;
     let (Some(archives), Some(folder)) = (words.get_str("ARCHIVES"), words.get_str("FOLDER")) else {
         tell_archives(visit, &image)?;
@@ -115,30 +134,5 @@ fn is_link(rt: &HostRuntime, name: &str) -> bool {
     match fs::symlink_metadata(rt, name) {
         Ok(file) => file.is_symlink(),
         Err(_) => false,
-    }
-}
-
-/// Writes a copy of the desk's image.
-pub fn backup_desk(visit: &mut Visit, words: &ArgMatches) -> Result<u8, Stop> {
-    let bytes = image_bytes(visit)?;
-    let path = words.get_str("FILE").unwrap_or("desk.copy");
-    let rt = &visit.rt;
-    match put_file(rt, path, &bytes, false) {
-        Ok(()) => {
-            if visit.json {
-                visit.tell_file("kept", path)?;
-                return Ok(0);
-            }
-            println!(visit;
-                "{path} has the desk as it is now: keep it at another place, where you would keep a list of names; to go back to it, move desk.pss away, put it as desk.psi into the archive's folder, and take that away after the first session"
-            )?;
-            Ok(0)
-        }
-        Err(e) => {
-            let line = format!(in visit.alloc();
-                "{path} could not be written: {e}; see that there is no such file yet and that its disk has room"
-            )?;
-            Err(visit.refuse(5, line.as_str()))
-        }
     }
 }

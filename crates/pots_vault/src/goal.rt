@@ -1,9 +1,8 @@
 //! Where fetched files are written to.
 
-use crate::keeping::NewFile;
+use crate::new_file::NewFile;
 use crate::stop::Stop;
 use crate::visit::Visit;
-use clap::ArgMatches;
 use pot_bytes::Name;
 use pot_report::name_text;
 use std::fs;
@@ -19,23 +18,17 @@ pub struct Goal {
 }
 
 impl Goal {
-    /// The folder that the words name, which is made where it is missing.
-    pub fn of(visit: &Visit, words: &ArgMatches) -> Result<Goal, Stop> {
+    /// The folder of this path, which is made where it is missing.
+    pub fn of(visit: &Visit, folder: &str, may_replace: bool) -> Result<Goal, Stop> {
         let rt = &visit.rt;
-        let folder = words.get_str("to").unwrap_or(".");
-        if fs::create_dir_all(rt, folder).is_err() {
-            let line = format!(in visit.alloc();
-                "the folder {folder} could not be made: see that its disk has room and may be written"
-            )?;
-            return Err(visit.refuse(5, line.as_str()));
-        }
+        make_folder(visit, folder)?;
         let own = match (fs::canonicalize(rt, folder), fs::canonicalize(rt, ".")) {
             (Ok(folder), Ok(here)) => folder.as_str() == here.as_str(),
             _ => true,
         };
         Ok(Goal {
             folder: String::from_str(visit.alloc(), folder)?,
-            may_replace: words.get_flag("force"),
+            may_replace,
             own,
         })
     }
@@ -131,6 +124,25 @@ impl Goal {
         );
         Ok(())
     }
+}
+
+/// Makes a folder that files are to be written to, where it is missing.
+///
+/// # Errors
+/// Why it could not be made was said.
+pub fn make_folder(visit: &Visit, folder: &str) -> Result<(), Stop> {
+    if fs::create_dir_all(&visit.rt, folder).is_ok() {
+        return Ok(());
+    }
+    let line = match fs::metadata(&visit.rt, folder) {
+        Ok(_) => format!(in visit.alloc();
+            "{folder} is a file: give a folder, or a name that nothing has yet"
+        )?,
+        Err(_) => format!(in visit.alloc();
+            "the folder {folder} could not be made: see that its disk has room and may be written"
+        )?,
+    };
+    Err(visit.refuse(5, line.as_str()))
 }
 
 // Whether the archive may have a file of this name.

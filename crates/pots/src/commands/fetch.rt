@@ -1,19 +1,39 @@
-//! Files that are fetched, and written whole or not at all.
+//! `fetch`: files that are fetched, and written whole or not at all.
 
-use crate::goal::Goal;
-use crate::incoming::Incoming;
-use crate::loads::{Task, cut};
-use crate::looking::image;
-use crate::progress::Progress;
 use crate::session::hold_together;
-use crate::stop::Stop;
-use crate::visit::Visit;
-use clap::ArgMatches;
+use crate::words::{option, session_command, switch};
+use clap::{Arg, ArgAction, ArgMatches};
 use pot_bytes::Name;
 use pot_report::{Kept, kept_files, name_text};
 use pot_script::Command;
+use pots_vault::{Goal, Incoming, Progress, Stop, Task, Visit, cut, image};
+use std::alloc::{AllocError, Global};
 use std::sync::Wait;
 use std::thread::Threads;
+
+/// Its words.
+pub fn words<'a>(alloc: Global) -> Result<clap::Command<'a>, AllocError> {
+    let command = session_command(
+        alloc,
+        "fetch",
+        "Fetch files, and write them whole or not at all",
+    )?;
+    command
+        .arg(
+            Arg::new(alloc, "NAME")
+                .action(ArgAction::Append)
+                .num_args(0..)
+                .help("The names of the files"),
+        )?
+        .arg(switch(alloc, "all", "Fetch every file"))?
+        .arg(option(
+            alloc,
+            "to",
+            "FOLDER",
+            "Write the files into this folder, which is made where it is missing",
+        ))?
+        .arg(switch(alloc, "force", "Write over files that are there"))
+}
 
 /// A file that is to be fetched.
 #[derive(Clone, Copy)]
@@ -23,12 +43,13 @@ struct Wanted {
 }
 
 /// Fetches files, in as few sessions as there are bytes for.
-pub fn fetch<X: Threads + Wait + Sync>(
+pub fn work<X: Threads + Wait + Sync>(
     turns: &X,
     visit: &mut Visit,
     words: &ArgMatches,
 ) -> Result<u8, Stop> {
-    let goal = Goal::of(visit, words)?;
+    let folder = words.get_str("to").unwrap_or(".");
+    let goal = Goal::of(visit, folder, words.get_flag("force"))?;
     let wanted = asked(visit, words)?;
     let mut files = incoming(visit, &goal, &wanted)?;
     let fetched = fetch_all(turns, visit, &goal, &mut files, progress_of(visit, &wanted));
@@ -62,6 +83,12 @@ fn asked(visit: &mut Visit, words: &ArgMatches) -> Result<Vec<Wanted>, Stop> {
             let line = format!(in visit.alloc(); "{text} is not stored: pots list tells what is")?;
             return Err(visit.refuse(1, line.as_str()));
         };
+        if wanted.iter().any(|other| other.name == name) {
+            let line = format!(in visit.alloc();
+                "{text} is named twice, and nothing was fetched: name it once"
+            )?;
+            return Err(visit.refuse(2, line.as_str()));
+        }
         wanted.push(Wanted { name, kept })?;
     }
     if wanted.is_empty() {

@@ -1,21 +1,31 @@
-//! How much of each file is exposed to who has some of the archives.
+//! `audit`: how much of each file is exposed to who has some of the archives.
 
-use crate::looking::image;
 use crate::session::{call, ended, words_of};
-use crate::stop::Stop;
-use crate::visit::{Visit, listed_archives};
+use crate::words::{command, operand};
 use clap::ArgMatches;
 use pot_bytes::Name;
 use pot_image::Image;
 use pot_report::{Exposure, Exposures, Holding, LooseColumn, holdings, name_text, read_exposures};
+use pots_vault::{Stop, Visit, image, listed_archives};
 use serde_json::json;
-use std::alloc::AllocError;
+use std::alloc::{AllocError, Global};
 use std::sync::Wait;
 use std::thread::Threads;
 
+/// Its words.
+pub fn words<'a>(alloc: Global) -> Result<clap::Command<'a>, AllocError> {
+    let about =
+        "Tell of each file how much is exposed to who has these archives, and of blocks in no file";
+    command(alloc, "audit", about)?.arg(operand(
+        alloc,
+        "ARCHIVES",
+        "The numbers of the archives, as 0-3 or 4,5",
+    ))
+}
+
 /// Tells of each file how much is exposed to who has these archives, and which of them have blocks
 /// that stand in no file.
-pub fn audit<X: Threads + Wait + Sync>(
+pub fn work<X: Threads + Wait + Sync>(
     turns: &X,
     visit: &mut Visit,
     words: &ArgMatches,

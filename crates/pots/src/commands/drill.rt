@@ -1,20 +1,39 @@
-//! A drill over two files of one length.
+//! `drill`: over two files of one length, that the blocks which are seen tell neither.
 
-use crate::looking::image;
-use crate::numbers::read_number;
 use crate::session::{call, ended, words_of};
-use crate::stop::Stop;
-use crate::visit::Visit;
+use crate::words::{command, operand, option};
 use clap::ArgMatches;
 use pot_client::PART_SIZE;
+use pots_vault::{Stop, Visit, image, read_number};
 use serde_json::json;
+use std::alloc::{AllocError, Global};
 use std::fs;
 use std::str::from_utf8;
 use std::sync::Wait;
 use std::thread::Threads;
 
+/// Its words.
+pub fn words<'a>(alloc: Global) -> Result<clap::Command<'a>, AllocError> {
+    let about = "Show that what some archives have of one file is what they would have of another";
+    command(alloc, "drill", about)?
+        .arg(operand(alloc, "FILE", "A file"))?
+        .arg(operand(alloc, "OTHER", "Another file of the same length"))?
+        .arg(option(
+            alloc,
+            "hidden",
+            "J",
+            "The fragment of which few points are seen; 1 where it is left out",
+        ))?
+        .arg(option(
+            alloc,
+            "seen",
+            "X,X",
+            "The points of it that are seen; none where it is left out",
+        ))
+}
+
 /// Shows that what some archives have of a file is what they would have of another.
-pub fn drill<X: Threads + Wait + Sync>(
+pub fn work<X: Threads + Wait + Sync>(
     turns: &X,
     visit: &mut Visit,
     words: &ArgMatches,

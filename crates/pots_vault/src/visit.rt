@@ -2,7 +2,6 @@
 
 use crate::numbers::{MOST_ARCHIVES, read_number, read_numbers};
 use crate::stop::{Stop, UNREAD, refuse};
-use clap::ArgMatches;
 use pot_files::DeskFile;
 use pot_report::{reply_json, reply_line};
 use pot_script::Reply;
@@ -28,16 +27,16 @@ pub struct Visit {
 }
 
 impl Visit {
-    /// A visit as the words ask for it.
-    pub fn begin(rt: &HostRuntime, matches: &ArgMatches) -> Result<Visit, Stop> {
-        let without = match matches.get_str("without") {
+    /// A visit that tells in JSON or in plain lines, without the archives that a text lists.
+    pub fn begin(rt: &HostRuntime, json: bool, without: Option<&str>) -> Result<Visit, Stop> {
+        let without = match without {
             Some(text) => listed_archives(rt, text)?,
             None => Vec::new(rt.alloc()),
         };
         Ok(Visit {
             rt: *rt,
             desk: DeskFile::new(rt),
-            json: matches.get_flag("json"),
+            json,
             without,
             kept: false,
             unread: Cell::new(false),
@@ -138,9 +137,9 @@ pub fn listed_archives(rt: &HostRuntime, text: &str) -> Result<Vec<u32>, Stop> {
     }
 }
 
-/// The number that the words give for an option, where they give one.
-pub fn number_given(visit: &Visit, words: &ArgMatches, name: &str) -> Result<Option<u32>, Stop> {
-    let Some(text) = words.get_str(name) else {
+/// The number that a text gives for an option of this name, where there is a text.
+pub fn number_in(visit: &Visit, name: &str, text: Option<&str>) -> Result<Option<u32>, Stop> {
+    let Some(text) = text else {
         return Ok(None);
     };
     if let Some(number) = read_number(text) {

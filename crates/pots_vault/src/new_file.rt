@@ -1,17 +1,11 @@
-//! Files that are put in their place whole, and the last images of the desk.
+//! Files that are put in their place whole.
 
-use crate::numbers::read_number;
-use crate::stop::Stop;
-use crate::visit::Visit;
 use std::fs::{File, OpenOptions};
 use std::io::ErrorKind;
 use std::os::fd::AsRawFd;
 use std::os::unix::fs::FileExt;
 use std::path::Path;
 use std::{fs, io};
-
-/// How many images of the desk are kept.
-const KEPT: usize = 10;
 
 /// How many names beside a file are tried.
 const TRIES: u32 = 100;
@@ -46,8 +40,8 @@ impl NewFile {
         Ok(())
     }
 
-    /// Brings it to the disk, and then gives it its name. Where there is a file of that name it stays
-    /// as it is, unless it may be replaced, and the new one is taken away.
+    /// Brings it to the disk, and then gives it its name. Where there is a file of that name it
+    /// stays as it is, unless it may be replaced, and the new one is taken away.
     pub fn settle(self, rt: &HostRuntime, may_replace: bool) -> io::Result<()> {
         let done = match self.file.sync_all() {
             Ok(()) => settle(rt, self.beside.as_str(), self.path.as_str(), may_replace),
@@ -147,60 +141,7 @@ pub fn sync_folder_of(rt: &HostRuntime, path: &str) -> io::Result<()> {
     fs::open(rt, folder)?.sync_all()
 }
 
-/// Keeps an image of the desk as `desk-NNNN.bak`, by the number of the session that wrote it, and
-/// forgets those before the last ten.
-pub fn keep_image(visit: &Visit, session: u32, image: &[u8]) -> Result<(), Stop> {
-    let rt = &visit.rt;
-    let name = kept_name(visit, session)?;
-    if put_file(rt, name.as_str(), image, true).is_err() {
-        return Err(visit.refuse(
-            6,
-            "a copy of the desk could not be kept: see that files can be made in this folder and that its disk has room",
-        ));
-    }
-    forget_images(visit, session)
-}
-
-fn kept_name(visit: &Visit, session: u32) -> Result<String, Stop> {
-    Ok(format!(in visit.alloc(); "desk-{session:04}.bak")?)
-}
-
-// Forgets images but for ten: first those of later sessions, from before the desk was put back, and
-// then the oldest.
-fn forget_images(visit: &Visit, session: u32) -> Result<(), Stop> {
-    let mut kept = kept_sessions(visit, session)?;
-    kept.sort()?;
-    let forgotten = kept.len().saturating_sub(KEPT);
-    for (_, old) in kept.iter().take(forgotten) {
-        let name = kept_name(visit, *old)?;
-        let _ = fs::remove_file(&visit.rt, name.as_str());
-    }
-    Ok(())
-}
-
-// The sessions of the images that are kept, each with whether it is no later than this one. A
-// folder that cannot be listed has none.
-fn kept_sessions(visit: &Visit, session: u32) -> Result<Vec<(bool, u32)>, Stop> {
-    let mut kept = Vec::new(visit.alloc());
-    let Ok(folder) = fs::read_dir(&visit.rt, ".") else {
-        return Ok(kept);
-    };
-    for entry in folder {
-        let Ok(entry) = entry else {
-            continue;
-        };
-        if let Some(number) = session_of(entry.file_name()) {
-            kept.push((number <= session, number))?;
-        }
-    }
-    Ok(kept)
-}
-
-// The number in the name of an image that is kept.
-fn session_of(name: &str) -> Option<u32> {
-    let digits = name.strip_prefix("desk-")?.strip_suffix(".bak")?;
-    if digits.len() < 4 {
-        return None;
-    }
-    read_number(digits)
+/// The file of a path, opened to be read alone. None where there is none that can be read.
+pub fn open_to_read(rt: &HostRuntime, path: &str) -> Option<File> {
+    fs::open(rt, path).ok()
 }

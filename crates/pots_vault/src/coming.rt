@@ -1,6 +1,7 @@
 //! An archive that is to come in the place of another.
 
-use crate::looking::{archive_name, image};
+use crate::archives::archive_name;
+use crate::desk::image;
 use crate::stop::Stop;
 use crate::visit::Visit;
 use pot_report::holdings;

@@ -1,5 +1,6 @@
 //! Which archives are ailing, and which command mends them.
 
+use crate::archives::numbered;
 use crate::stop::Stop;
 use crate::visit::Visit;
 use pot_image::Image;
@@ -76,7 +77,7 @@ pub fn tell_ailing(visit: &Visit, image: &Image) -> Result<bool, Stop> {
     for holding in holdings(visit.alloc(), image)?.iter() {
         gone.add(holding);
         if holding.to_mend() > 0 {
-            tell_one(&visit.rt, holding);
+            tell_one(visit, holding)?;
         }
     }
     gone.tell_idle(visit)?;
@@ -89,20 +90,23 @@ pub fn tell_ailing(visit: &Visit, image: &Image) -> Result<bool, Stop> {
     Ok(gone.to_mend > 0)
 }
 
-fn tell_one(rt: &HostRuntime, holding: &Holding) {
+fn tell_one(visit: &Visit, holding: &Holding) -> Result<(), Stop> {
+    let rt = &visit.rt;
     let archive = holding.archive;
+    let name = numbered(visit, archive)?;
     let group = holding.group;
     let gone = holding.gone();
     let to_mend = holding.to_mend();
     if holding.live == 0 {
         let _ = eprintln!(rt;
-            "pots: archive {archive} is ailing: all its {gone} blocks are gone; if its disk is dead, bring a new archive to another disk with pots place NEW FOLDER, put it in its place with pots replace {archive} NEW, and then mend with pots repair {group}"
+            "pots: {name} is ailing: all its {gone} blocks are gone; if its disk is dead, bring a new archive to another disk with pots place NEW FOLDER, put it in its place with pots replace {archive} NEW, and then mend with pots repair {group}"
         );
     } else {
         let _ = eprintln!(rt;
-            "pots: archive {archive} is ailing: {to_mend} of its blocks are gone; mend with pots repair {group}"
+            "pots: {name} is ailing: {to_mend} of its blocks are gone; mend with pots repair {group}"
         );
     }
+    Ok(())
 }
 
 // Tells how many blocks parity does not give back, and what to do.

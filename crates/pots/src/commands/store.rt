@@ -1,21 +1,30 @@
-//! Files that are stored.
+//! `store`: files that are stored.
 
 use crate::gathering::Gathered;
-use crate::known::Known;
-use crate::looking::image;
-use crate::progress::Progress;
-use crate::stop::Stop;
-use crate::visit::Visit;
+use crate::words::{operands, option, session_command};
 use clap::ArgMatches;
 use pot_bytes::{Name, digest_of};
 use pot_client::{PART_SIZE, count_parts, ends_as_part, part, part_name};
 use pot_report::{Manifest, Size, name_text, spoken_name};
-use std::alloc::Global;
+use pots_vault::{Known, Progress, Stop, Visit, image};
+use std::alloc::{AllocError, Global};
 use std::collections::BTreeSet;
 use std::fs;
 use std::path::Path;
 use std::sync::Wait;
 use std::thread::Threads;
+
+/// Its words.
+pub fn words<'a>(alloc: Global) -> Result<clap::Command<'a>, AllocError> {
+    let command = session_command(
+        alloc,
+        "store",
+        "Store files, each under the last part of its path",
+    )?;
+    command
+        .arg(operands(alloc, "FILE", "The files to store"))?
+        .arg(option(alloc, "as", "NAME", "Store the one file under this name"))
+}
 
 /// A file that is to be stored.
 #[derive(Drop)]
@@ -26,7 +35,7 @@ struct Item {
 }
 
 /// Stores files. Room for all of them is looked for before the first byte is stored.
-pub fn store<X: Threads + Wait + Sync>(
+pub fn work<X: Threads + Wait + Sync>(
     turns: &X,
     visit: &mut Visit,
     words: &ArgMatches,

@@ -1,14 +1,13 @@
-//! Files that were found without the desk are written: those in parts under the names of their lists, and others under their ids.
+//! Files that were found without the desk are written: those in parts under the names of their
+//! lists, and others under their ids.
 //!
-//! Nobody vouches for what was found: who could write to an archive could put a file or a list there.
-//! So a list gives no more than was found, and two files of one name are both written.
+//! Nobody vouches for what was found: who could write to an archive could put a file or a list
+//! there. So a list gives no more than was found, and two files of one name are both written.
 
-use crate::keeping::put_file;
-use crate::stop::Stop;
-use crate::visit::Visit;
 use pot_bytes::{Digest, digest_of};
 use pot_client::PART_SIZE;
 use pot_report::{Found, Manifest, digest_text, name_text};
+use pots_vault::{Stop, Visit, put_file};
 use std::alloc::Global;
 
 /// A file that was found, with its digest.

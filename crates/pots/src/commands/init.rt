@@ -1,20 +1,74 @@
-//! An archive that is made.
+//! `init`: an archive that is made.
 
-use crate::looking::archive_name;
-use crate::numbers::MOST_ARCHIVES;
 use crate::session::{call, ended, words_of};
-use crate::stop::Stop;
-use crate::visit::{Visit, number_given};
+use crate::splitting::{geometry_of, number, small};
+use crate::words::{command, option, switch};
 use clap::ArgMatches;
 use pot_bytes::{Geometry, Rack};
 use pot_report::{Plan, Wish, read_size};
+use pots_vault::{MOST_ARCHIVES, Stop, Visit, archive_name};
 use serde_json::json;
+use std::alloc::{AllocError, Global};
 use std::fs;
 use std::sync::Wait;
 use std::thread::Threads;
 
+/// Its words.
+pub fn words<'a>(alloc: Global) -> Result<clap::Command<'a>, AllocError> {
+    let init = command(
+        alloc,
+        "init",
+        "Make an archive in this folder, and tell what follows from its shape",
+    )?
+    .arg(option(
+        alloc,
+        "sites",
+        "N",
+        "At how many places archives are kept, 2 to 16; 3 where it is left out",
+    ))?
+    .arg(option(
+        alloc,
+        "survive",
+        "S",
+        "How many of the places may vanish, at most N - 2; 1 where it is left out, or 0 for two places",
+    ))?
+    .arg(option(
+        alloc,
+        "room",
+        "SIZE",
+        "How much is to be kept, as 20MB, which it is where it is left out",
+    ))?
+    .arg(switch(alloc, "dry-run", "Only tell what would follow"))?;
+    add_numbers(alloc, init)
+}
+
+// The numbers of a rack, each in place of what follows from the wish.
+fn add_numbers<'a>(
+    alloc: Global,
+    init: clap::Command<'a>,
+) -> Result<clap::Command<'a>, AllocError> {
+    init.arg(option(
+        alloc,
+        "groups",
+        "G",
+        "Groups of archives, from the number of shards to 16",
+    ))?
+    .arg(option(alloc, "columns", "C", "Data archives of a group, 1 to 16"))?
+    .arg(option(alloc, "parity", "P", "Parity archives of a group, 1 or 2"))?
+    .arg(option(alloc, "stripes", "Z", "Blocks of an archive, 1 to 4096"))?
+    .arg(option(alloc, "fragments", "K", "Fragments of a piece, 2 to 8"))?
+    .arg(option(alloc, "need", "M", "Shards that give a fragment, 1 to N"))?
+    .arg(option(alloc, "shards", "N", "Shards of a fragment, at most 16"))?
+    .arg(option(
+        alloc,
+        "blur",
+        "B",
+        "Low bits that a pointer leaves out, 0 to 63",
+    ))
+}
+
 /// Makes an archive in the working folder, and tells what follows from its shape.
-pub fn init<X: Threads + Wait + Sync>(
+pub fn work<X: Threads + Wait + Sync>(
     turns: &X,
     visit: &mut Visit,
     words: &ArgMatches,
@@ -72,26 +126,6 @@ fn room_asked(visit: &Visit, words: &ArgMatches) -> Result<u64, Stop> {
         Some(room) => Ok(room),
         None => Err(visit.refuse(2, "--room takes a size, as 20MB or 512KiB")),
     }
-}
-
-// A small number, and one that is beyond all limits as such.
-fn small(number: u32) -> u8 {
-    u8::try_from(number).unwrap_or(u8::MAX)
-}
-
-// The number of an option.
-fn number(visit: &Visit, words: &ArgMatches, name: &str, otherwise: u32) -> Result<u32, Stop> {
-    Ok(number_given(visit, words, name)?.unwrap_or(otherwise))
-}
-
-/// A geometry with those numbers in the place of its own that the words give.
-pub fn geometry_of(visit: &Visit, words: &ArgMatches, own: Geometry) -> Result<Geometry, Stop> {
-    Ok(Geometry {
-        fragments: small(number(visit, words, "fragments", u32::from(own.fragments))?),
-        need: small(number(visit, words, "need", u32::from(own.need))?),
-        shards: small(number(visit, words, "shards", u32::from(own.shards))?),
-        blur: small(number(visit, words, "blur", u32::from(own.blur))?),
-    })
 }
 
 // A rack with those numbers in the place of its own that the words give.

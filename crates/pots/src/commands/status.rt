@@ -1,58 +1,23 @@
-//! What is stored, and how the archives stand, by the desk alone.
+//! `status`: how the archives stand, by the desk alone.
 
-use crate::looking::{Standing, archive_name, image, look_at};
-use crate::stop::Stop;
-use crate::visit::Visit;
-use pot_bytes::Name;
+use crate::words::command;
 use pot_image::Image;
-use pot_report::{Holding, Kept, Room, Size, holdings, kept_files, name_text, place_of};
+use pot_report::{Holding, Room, Size, holdings, place_of};
+use pots_vault::{Standing, Stop, Visit, image, look_at, place_text};
 use serde_json::json;
-use std::fs;
+use std::alloc::{AllocError, Global};
 
-/// Lists the files that are stored.
-pub fn list(visit: &mut Visit) -> Result<u8, Stop> {
-    let image = image(visit)?;
-    let rt = &visit.rt;
-    if image.records.is_empty() {
-        let _ = eprintln!(rt; "pots: nothing is stored yet");
-    }
-    for (name, kept) in kept_files(visit.alloc(), &image)?.iter() {
-        if visit.json {
-            tell_file_json(visit, name, kept)?;
-        } else {
-            tell_file(visit, name, kept)?;
-        }
-    }
-    Ok(0)
-}
-
-fn tell_file(visit: &Visit, name: &Name, kept: &Kept) -> Result<(), Stop> {
-    let text = name_text(name);
-    let size = Size(kept.direct.unwrap_or(kept.length));
-    let size = format!(in visit.alloc(); "{size}")?;
-    let size = size.as_str();
-    if kept.direct.is_some() {
-        println!(visit; "{size:>10}  {text}")?;
-    } else if kept.complete {
-        let parts = kept.parts;
-        println!(visit; "{size:>10}  {text}  in {parts} parts")?;
-    } else {
-        println!(visit; "{size:>10}  {text}  not stored to its end")?;
-    }
-    Ok(())
-}
-
-fn tell_file_json(visit: &Visit, name: &Name, kept: &Kept) -> Result<(), Stop> {
-    let length = kept.direct.unwrap_or(kept.length);
-    let whole = kept.is_whole();
-    let line =
-        json!(in visit.alloc(); {"name": name_text(name), "length": length, "parts": kept.parts, "whole": whole})?;
-    let line = line.to_string(visit.alloc())?;
-    println!(visit; "{line}")
+/// Its words.
+pub fn words<'a>(alloc: Global) -> Result<clap::Command<'a>, AllocError> {
+    command(
+        alloc,
+        "status",
+        "Tell how each archive stands by the desk, and how much room is left",
+    )
 }
 
 /// Tells how each archive stands, and how much room is left.
-pub fn status(visit: &mut Visit) -> Result<u8, Stop> {
+pub fn work(visit: &mut Visit) -> Result<u8, Stop> {
     let image = image(visit)?;
     tell_archives(visit, &image)?;
     let room = Room::left(visit.alloc(), &image)?.bytes();
@@ -111,16 +76,8 @@ fn file_text(visit: &Visit, holding: &Holding) -> Result<String, Stop> {
         Standing::There => "",
         Standing::Missing => ", missing",
         Standing::Short => ", too short",
+        Standing::NoFile => ", no file",
     };
     let place = place_text(visit, holding.archive)?;
     Ok(format!(in visit.alloc(); "{place}{word}")?)
-}
-
-/// Where the file of an archive lies.
-pub fn place_text(visit: &Visit, number: u32) -> Result<String, Stop> {
-    let name = archive_name(visit.alloc(), number)?;
-    match fs::read_link(&visit.rt, name.as_str()) {
-        Ok(target) => Ok(target.into_string()),
-        Err(_) => Ok(name),
-    }
 }

@@ -1,9 +1,6 @@
 //! What is left of the archives of a folder.
 
-use crate::looking::archive_name;
-use crate::numbers::MOST_ARCHIVES;
-use crate::stop::Stop;
-use crate::visit::Visit;
+use pots_vault::{MOST_ARCHIVES, Stop, Visit, archive_name, open_to_read};
 use std::alloc::Global;
 use std::fs;
 use std::fs::{File, Metadata};
@@ -127,5 +124,5 @@ fn state_by(visit: &Visit, number: u32, name: &str, file: &Metadata) -> State {
 /// The file of an archive that is there, opened to be read alone.
 pub fn open_archive(rt: &HostRuntime, number: u32) -> Option<File> {
     let name = archive_name(rt.alloc(), number).ok()?;
-    fs::open(rt, name.as_str()).ok()
+    open_to_read(rt, name.as_str())
 }

@@ -1,8 +1,8 @@
 //! How archives form groups, as their blocks tell it.
 
 use crate::surveying::{Survey, open_archive};
-use crate::visit::Visit;
 use pot_bytes::xor_into;
+use pots_vault::Visit;
 use std::alloc::AllocError;
 use std::fs::File;
 use std::ops::Range;
