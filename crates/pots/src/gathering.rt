@@ -36,6 +36,7 @@ pub struct Gathered {
 }
 
 impl Gathered {
+    /// No file waits yet.
     pub fn new(alloc: Global, progress: Progress) -> Gathered {
         Gathered {
             commands: Vec::new(alloc),

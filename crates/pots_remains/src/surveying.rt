@@ -20,6 +20,7 @@ pub enum State {
 }
 
 impl State {
+    /// Whether its blocks can be read.
     pub fn is_there(self) -> bool {
         matches!(self, State::There { .. })
     }
@@ -57,6 +58,7 @@ impl Survey {
         Ok(Survey { states })
     }
 
+    /// How the file of this number is found.
     pub fn state(&self, number: u32) -> State {
         match self.states.get(number as usize) {
             Some(state) => *state,

@@ -1,6 +1,6 @@
 //! An archive that is to come in the place of another.
 
-use crate::archives::archive_name;
+use crate::archives::{archive_name, named};
 use crate::desk::image;
 use crate::stop::Stop;
 use crate::visit::Visit;
@@ -28,6 +28,7 @@ pub fn look_for_empty(visit: &mut Visit, number: u32) -> Result<(), Stop> {
     if !holds_blocks(&bytes) {
         return Ok(());
     }
+    let name = named(visit, number)?;
     let line = format!(in visit.alloc();
         "{name} holds blocks from before: give an empty archive, by another number, or move that file away"
     )?;

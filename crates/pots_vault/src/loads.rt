@@ -29,6 +29,7 @@ pub struct Load {
 }
 
 impl Load {
+    /// A session that has nothing to do.
     pub fn nothing() -> Load {
         Load {
             commands: 0,

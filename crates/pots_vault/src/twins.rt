@@ -16,7 +16,10 @@ pub fn look_for_twins(visit: &Visit, all: &[Holding]) -> Result<(), Stop> {
         let Some(file) = file_of(visit, number)? else {
             continue;
         };
-        if let Some(other) = files.insert(file, number)? {
+        let Some(other) = files.insert(file, number)? else {
+            continue;
+        };
+        if lead_to_one(visit, other, number)? {
             return Err(one_file(visit, other, number)?);
         }
     }
@@ -30,6 +33,22 @@ fn file_of(visit: &Visit, number: u32) -> Result<Option<(u64, u64)>, Stop> {
         Ok(file) => Ok(Some((file.dev(), file.ino()))),
         Err(_) => Ok(None),
     }
+}
+
+// Whether two archives whose files have one number have one file: they lead to one path, or it has
+// several names. A file system that gives all its files one number shows no more than that.
+fn lead_to_one(visit: &Visit, first: u32, second: u32) -> Result<bool, Stop> {
+    let other = archive_name(visit.alloc(), first)?;
+    let name = archive_name(visit.alloc(), second)?;
+    let rt = &visit.rt;
+    let has_names = match fs::metadata(rt, name.as_str()) {
+        Ok(file) => file.nlink() > 1,
+        Err(_) => false,
+    };
+    Ok(match (fs::canonicalize(rt, other.as_str()), fs::canonicalize(rt, name.as_str())) {
+        (Ok(other), Ok(name)) => has_names || other.as_str() == name.as_str(),
+        _ => has_names,
+    })
 }
 
 // The end of the command where two archives have one file.

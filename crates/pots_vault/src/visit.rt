@@ -43,6 +43,7 @@ impl Visit {
         })
     }
 
+    /// What memory is taken from.
     pub fn alloc(&self) -> Global {
         self.rt.alloc()
     }
