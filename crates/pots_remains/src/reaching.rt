@@ -131,4 +131,3 @@ fn blur_in(file: &File) -> Option<u32> {
     }
     None
 }
-

@@ -34,6 +34,28 @@ pub fn look_at(rt: &HostRuntime, holding: &Holding) -> Result<Standing, AllocErr
     }
 }
 
+/// Ends the command where a folder, a pipe or a device has the place of an archive: to read it may
+/// have no end.
+///
+/// # Errors
+/// What stands there was said.
+pub fn look_for_file(visit: &Visit, number: u32) -> Result<(), Stop> {
+    let name = archive_name(visit.alloc(), number)?;
+    match fs::metadata(&visit.rt, name.as_str()) {
+        Ok(found) if !found.is_file() => Err(no_file(visit, number)?),
+        _ => Ok(()),
+    }
+}
+
+/// The end of the command where a folder, a pipe or a device has the place of an archive.
+pub fn no_file(visit: &Visit, number: u32) -> Result<Stop, Stop> {
+    let name = named(visit, number)?;
+    let line = format!(in visit.alloc();
+        "{name} is no file: move it away, and put the archive's file there"
+    )?;
+    Ok(visit.refuse(8, line.as_str()))
+}
+
 /// Where the file of an archive lies.
 pub fn place_text(visit: &Visit, number: u32) -> Result<String, Stop> {
     let name = archive_name(visit.alloc(), number)?;

@@ -1,7 +1,7 @@
 //! What is looked at before a session: that each archive of which the desk speaks is there, in a
 //! file of its own and under its own number, and whether the session before came to its end.
 
-use crate::archives::{Standing, archive_name, look_at, named};
+use crate::archives::{Standing, archive_name, look_at, named, no_file};
 use crate::desk::{image_bytes, parsed};
 use crate::kept_images::keep_image;
 use crate::sampling::look_for_strangers;
@@ -107,15 +107,6 @@ fn look_at_one(visit: &Visit, holding: &Holding, list: &mut String) -> Result<()
     }
     list.push_str(format!(in visit.alloc(); "{number}")?.as_str())?;
     Ok(())
-}
-
-// The end of the command where a folder, a pipe or a device has the place of an archive.
-fn no_file(visit: &Visit, number: u32) -> Result<Stop, Stop> {
-    let name = named(visit, number)?;
-    let line = format!(in visit.alloc();
-        "{name} is no file: move it away, and put the archive's file there"
-    )?;
-    Ok(visit.refuse(8, line.as_str()))
 }
 
 fn tell_absent(visit: &Visit, number: u32, standing: Standing) -> Result<(), Stop> {

@@ -1,6 +1,6 @@
 //! An archive that is to come in the place of another.
 
-use crate::archives::{archive_name, named};
+use crate::archives::{archive_name, look_for_file, named};
 use crate::desk::image;
 use crate::stop::Stop;
 use crate::visit::Visit;
@@ -20,6 +20,7 @@ pub fn look_for_empty(visit: &mut Visit, number: u32) -> Result<(), Stop> {
     if holdings.iter().any(|holding| holding.archive == number) {
         return Ok(());
     }
+    look_for_file(visit, number)?;
     let name = archive_name(visit.alloc(), number)?;
     let name = name.as_str();
     let Ok(bytes) = fs::read(&visit.rt, name) else {

@@ -28,7 +28,7 @@ mod visit;
 
 pub use after::tell_losses;
 pub use ailing::{Gone, tell_ailing};
-pub use archives::{Standing, archive_name, look_at, named, place_text};
+pub use archives::{Standing, archive_name, look_at, look_for_file, named, place_text};
 pub use before::{are_all_there, image_for_session, was_stopped};
 pub use coming::look_for_empty;
 pub use desk::{image, image_bytes};

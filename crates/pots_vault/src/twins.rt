@@ -45,10 +45,15 @@ fn lead_to_one(visit: &Visit, first: u32, second: u32) -> Result<bool, Stop> {
         Ok(file) => file.nlink() > 1,
         Err(_) => false,
     };
-    Ok(match (fs::canonicalize(rt, other.as_str()), fs::canonicalize(rt, name.as_str())) {
-        (Ok(other), Ok(name)) => has_names || other.as_str() == name.as_str(),
-        _ => has_names,
-    })
+    Ok(
+        match (
+            fs::canonicalize(rt, other.as_str()),
+            fs::canonicalize(rt, name.as_str()),
+        ) {
+            (Ok(other), Ok(name)) => has_names || other.as_str() == name.as_str(),
+            _ => has_names,
+        },
+    )
 }
 
 // The end of the command where two archives have one file.

@@ -4,7 +4,7 @@ use crate::commands::status::tell_archives;
 use crate::words::command;
 use clap::{Arg, ArgAction, ArgMatches};
 use pots_vault::{
-    Stop, Visit, archive_name, image, listed_archives, put_file, sync_folder_of,
+    Stop, Visit, archive_name, image, listed_archives, look_for_file, put_file, sync_folder_of,
 };
 use std::alloc::{AllocError, Global};
 use std::io::ErrorKind;
@@ -59,6 +59,7 @@ fn place_one(visit: &Visit, number: u32, folder: &str) -> Result<(), Stop> {
     if lies_at(rt, name, target) {
         return tell_placed(visit, name, target);
     }
+    look_for_file(visit, number)?;
     match copy_and_link(rt, name, target) {
         Ok(()) => tell_placed(visit, name, target),
         Err(e) => {

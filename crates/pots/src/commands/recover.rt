@@ -150,4 +150,3 @@ fn read_all<X: Threads + Wait + Sync>(
         )),
     }
 }
-
