@@ -47,8 +47,8 @@ pub fn look_for_file(visit: &Visit, number: u32) -> Result<(), Stop> {
     }
 }
 
-/// The end of the command where a folder, a pipe or a device has the place of an archive.
-pub fn no_file(visit: &Visit, number: u32) -> Result<Stop, Stop> {
+// The end of the command where a folder, a pipe or a device has the place of an archive.
+fn no_file(visit: &Visit, number: u32) -> Result<Stop, Stop> {
     let name = named(visit, number)?;
     let line = format!(in visit.alloc();
         "{name} is no file: move it away, and put the archive's file there"

@@ -1,7 +1,7 @@
 //! What is looked at before a session: that each archive of which the desk speaks is there, in a
 //! file of its own and under its own number, and whether the session before came to its end.
 
-use crate::archives::{Standing, archive_name, look_at, named, no_file};
+use crate::archives::{Standing, archive_name, look_at, look_for_file, named};
 use crate::desk::{image_bytes, parsed};
 use crate::kept_images::keep_image;
 use crate::sampling::look_for_strangers;
@@ -23,10 +23,11 @@ pub fn image_for_session(visit: &mut Visit) -> Result<Image, Stop> {
     let bytes = image_bytes(visit)?;
     let image = parsed(visit, &bytes)?;
     let all = holdings(visit.alloc(), &image)?;
-    look_at_archives(visit, &all)?;
-    look_at_access(visit, &all)?;
+    look_for_files(visit, &all)?;
     look_for_twins(visit, &all)?;
     look_for_strangers(visit, &image, &all)?;
+    look_at_archives(visit, &all)?;
+    look_at_access(visit, &all)?;
     if !visit.kept {
         keep_image(visit, image.session, &bytes)?;
         visit.kept = true;
@@ -50,6 +51,14 @@ pub fn are_all_there(visit: &Visit, image: &Image) -> Result<bool, Stop> {
         }
     }
     Ok(true)
+}
+
+// Ends the command where something else than a file has the place of an archive.
+fn look_for_files(visit: &Visit, all: &[Holding]) -> Result<(), Stop> {
+    for holding in all.iter() {
+        look_for_file(visit, holding.archive)?;
+    }
+    Ok(())
 }
 
 // Ends the command where archives are missing or too short that it was not asked to go on without,
@@ -91,13 +100,10 @@ fn look_at_links(visit: &Visit) -> Result<(), Stop> {
 }
 
 // Says that an archive is not there as it should be, and lists it, unless the command was asked to
-// go on without it. Ends the command where no session can open it.
+// go on without it.
 fn look_at_one(visit: &Visit, holding: &Holding, list: &mut String) -> Result<(), Stop> {
     let number = holding.archive;
     let standing = look_at(&visit.rt, holding)?;
-    if standing == Standing::NoFile {
-        return Err(no_file(visit, number)?);
-    }
     if standing == Standing::There || visit.without.contains(&number) {
         return Ok(());
     }
