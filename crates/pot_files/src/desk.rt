@@ -93,8 +93,12 @@ fn load_image(rt: &HostRuntime) -> Result<Option<Vec<u8>>, DeskFault> {
     }
 }
 
-/// The image of `desk.psi`, or none where there is no such file.
+/// The image of `desk.psi`, or none where there is no such file. A folder, a pipe or a device of
+/// that name is a fault, and is not read.
 fn load_earlier(rt: &HostRuntime) -> Result<Option<Vec<u8>>, DeskFault> {
+    if fs::metadata(rt, "desk.psi").is_ok_and(|found| !found.is_file()) {
+        return Err(DeskFault::Failed);
+    }
     match fs::read(rt, "desk.psi") {
         Ok(image) => Ok(Some(image)),
         Err(e) if e.kind() == ErrorKind::NotFound => Ok(None),

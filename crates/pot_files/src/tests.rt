@@ -161,6 +161,17 @@ fn an_image_of_an_earlier_program(rt: HostRuntime) -> Result<(), Fail> {
     Ok(())
 }
 
+/// A device has no end that a read would come to.
+#[test]
+fn an_earlier_image_that_is_no_file_is_a_fault(rt: HostRuntime) -> Result<(), Fail> {
+    let mut desk = new_desk(&rt);
+    symlink(&rt, "/dev/zero", "desk.psi")?;
+    let refused = desk.read() == Err(DeskFault::Failed);
+    remove_desk(&rt);
+    assert!(rt; refused);
+    Ok(())
+}
+
 #[test]
 fn a_second_desk_is_refused_until_the_first_is_gone(rt: HostRuntime) -> Result<(), Fail> {
     let mut first = new_desk(&rt);

@@ -1,19 +1,14 @@
 //! What the words ask for.
 
-use crate::auditing::audit;
-use crate::drilling::drill;
-use crate::fetching::fetch;
-use crate::making::init;
-use crate::mending::{check, migrate, renew, repair, replace};
-use crate::placing::{backup_desk, place};
-use crate::recovering::recover;
-use crate::stop::{Stop, UNREAD, refuse};
-use crate::storing::store;
-use crate::telling::{list, status};
-use crate::visit::Visit;
+use crate::commands::{
+    audit, backup_desk, check, drill, fetch, init, list, migrate, place, recover, renew, repair,
+    replace, status, store,
+};
+use crate::verbs::Verb;
 use crate::words::program;
 use clap::error::ErrorKind;
 use clap::{ArgMatches, Error};
+use pots_vault::{Stop, UNREAD, Visit, refuse};
 use std::sync::Wait;
 use std::thread::Threads;
 use std::{env, io};
@@ -72,55 +67,35 @@ fn work<X: Threads + Wait + Sync>(
     let Some((name, words)) = matches.subcommand() else {
         return Err(refuse(rt, 2, "no command was given: see pots help"));
     };
-    let mut visit = Visit::begin(rt, words)?;
-    let status = do_named(name, turns, &mut visit, words)?;
+    let mut visit = Visit::begin(rt, words.get_flag("json"), words.get_str("without"))?;
+    let Some(verb) = Verb::of(name) else {
+        return Err(visit.refuse(2, "there is no such command: see pots help"));
+    };
+    let status = do_it(verb, turns, &mut visit, words)?;
     Ok(visit.status(status))
 }
 
-fn do_named<X: Threads + Wait + Sync>(
-    name: &str,
+fn do_it<X: Threads + Wait + Sync>(
+    verb: Verb,
     turns: &X,
     visit: &mut Visit,
     words: &ArgMatches,
 ) -> Result<u8, Stop> {
-    match name {
-        "init" => init(turns, visit, words),
-        "store" => store(turns, visit, words),
-        "fetch" => fetch(turns, visit, words),
-        "list" => list(visit),
-        "status" => status(visit),
-        _ => tend(name, turns, visit, words),
-    }
-}
-
-fn tend<X: Threads + Wait + Sync>(
-    name: &str,
-    turns: &X,
-    visit: &mut Visit,
-    words: &ArgMatches,
-) -> Result<u8, Stop> {
-    match name {
-        "check" => check(turns, visit, words),
-        "repair" => repair(turns, visit, words),
-        "replace" => replace(turns, visit, words),
-        "migrate" => migrate(turns, visit, words),
-        "renew" => renew(turns, visit, words),
-        _ => keep(name, turns, visit, words),
-    }
-}
-
-fn keep<X: Threads + Wait + Sync>(
-    name: &str,
-    turns: &X,
-    visit: &mut Visit,
-    words: &ArgMatches,
-) -> Result<u8, Stop> {
-    match name {
-        "place" => place(visit, words),
-        "backup-desk" => backup_desk(visit, words),
-        "recover" => recover(turns, visit, words),
-        "audit" => audit(turns, visit, words),
-        "drill" => drill(turns, visit, words),
-        _ => Err(visit.refuse(2, "there is no such command: see pots help")),
+    match verb {
+        Verb::Init => init::work(turns, visit, words),
+        Verb::Store => store::work(turns, visit, words),
+        Verb::Fetch => fetch::work(turns, visit, words),
+        Verb::List => list::work(visit),
+        Verb::Status => status::work(visit),
+        Verb::Check => check::work(turns, visit, words),
+        Verb::Repair => repair::work(turns, visit, words),
+        Verb::Replace => replace::work(turns, visit, words),
+        Verb::Migrate => migrate::work(turns, visit, words),
+        Verb::Renew => renew::work(turns, visit, words),
+        Verb::Place => place::work(visit, words),
+        Verb::BackupDesk => backup_desk::work(visit, words),
+        Verb::Recover => recover::work(turns, visit, words),
+        Verb::Audit => audit::work(turns, visit, words),
+        Verb::Drill => drill::work(turns, visit, words),
     }
 }

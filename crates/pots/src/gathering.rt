@@ -3,15 +3,12 @@
 //! The list of parts of a long file is stored once each of its parts was answered `stored`, or was
 //! there before. So it goes into a session behind that of its last part.
 
-use crate::loads::Load;
-use crate::progress::Progress;
 use crate::session::hold_together;
-use crate::stop::Stop;
-use crate::visit::Visit;
 use pot_bytes::{Bytes, Name};
 use pot_client::{ends_as_part, read_part_name};
 use pot_report::{name_text, spoken_name};
 use pot_script::{Command, Reply};
+use pots_vault::{Load, Progress, Stop, Visit};
 use std::alloc::{AllocError, Global};
 use std::mem;
 use std::sync::Wait;
@@ -39,6 +36,7 @@ pub struct Gathered {
 }
 
 impl Gathered {
+    /// No file waits yet.
     pub fn new(alloc: Global, progress: Progress) -> Gathered {
         Gathered {
             commands: Vec::new(alloc),

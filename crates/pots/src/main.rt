@@ -6,36 +6,13 @@
 #![tactic(auto)]
 
 mod answering;
-mod auditing;
-mod coming;
-mod drilling;
-mod fetching;
+mod commands;
 mod gathering;
-mod goal;
-mod incoming;
-mod init_words;
-mod joined;
-mod keeping;
-mod known;
-mod loads;
-mod looking;
-mod making;
-mod mending;
-mod numbers;
-mod placing;
-mod progress;
-mod recovering;
-mod rejoining;
-mod remains;
+mod moving;
 mod session;
-mod shaping;
-mod shelving;
-mod stop;
-mod storing;
-mod surveying;
-mod telling;
-mod tending_words;
-mod visit;
+mod splitting;
+mod stopped;
+mod verbs;
 mod words;
 
 use crate::answering::answer;

@@ -1,14 +1,14 @@
 //! Sessions: a script is given to `run`, and its replies are read.
 
-use crate::loads::MOST_TOGETHER;
-use crate::looking::image_for_session;
-use crate::stop::Stop;
-use crate::visit::Visit;
+use crate::stopped::image_to_begin;
 use pot_client::{read_replies, write_script};
 use pot_doubles::{MemSink, MemSource};
 use pot_files::{Folder, NoGate, drawn};
+use pot_image::Image;
+use pot_report::holdings;
 use pot_script::{Command, Reply};
 use pot_session::run;
+use pots_vault::{MOST_TOGETHER, Stop, Visit, image, tell_losses};
 use std::alloc::{AllocError, Global};
 use std::sync::Wait;
 use std::thread::Threads;
@@ -20,13 +20,47 @@ pub struct Ran {
     pub written: Vec<u8>,
 }
 
-/// Holds a session that works these commands, and answers its replies.
+/// Holds a session that works these commands, tells which blocks it found gone, and answers its
+/// replies. Where the session before did not come to its end, what that left is mended first.
 pub fn hold<X: Threads + Wait + Sync>(
     turns: &X,
     visit: &mut Visit,
     commands: Vec<Command>,
 ) -> Result<Vec<Reply>, Stop> {
-    let _ = image_for_session(visit)?;
+    let image = image_to_begin(turns, visit, &commands)?;
+    let before = holdings(visit.alloc(), &image)?;
+    drop(image);
+    let replies = work(turns, visit, commands)?;
+    let image = closed(visit)?;
+    tell_losses(visit, &before, &holdings(visit.alloc(), &image)?)?;
+    Ok(replies)
+}
+
+/// Holds a session as `hold` does, for a command that tells itself which blocks are gone.
+pub fn hold_to_tell<X: Threads + Wait + Sync>(
+    turns: &X,
+    visit: &mut Visit,
+    commands: Vec<Command>,
+) -> Result<Vec<Reply>, Stop> {
+    let _ = image_to_begin(turns, visit, &commands)?;
+    let replies = work(turns, visit, commands)?;
+    let _ = closed(visit)?;
+    Ok(replies)
+}
+
+/// What is done after each session that closed. Answers the desk's image.
+pub fn closed(visit: &mut Visit) -> Result<Image, Stop> {
+    image(visit)
+}
+
+/// Works these commands in a session, and answers their replies. Behind them the files are listed,
+/// so that the logs of a session that comes to its end are not all empty.
+pub fn work<X: Threads + Wait + Sync>(
+    turns: &X,
+    visit: &mut Visit,
+    mut commands: Vec<Command>,
+) -> Result<Vec<Reply>, Stop> {
+    commands.push(Command::List)?;
     let script = script_of(visit.alloc(), commands)?;
     let words = words_of(visit.alloc(), "run")?;
     let ran = call(turns, visit, &words, script)?;
@@ -34,7 +68,10 @@ pub fn hold<X: Threads + Wait + Sync>(
         return Err(ended(visit, &ran));
     }
     match read_replies(visit.alloc(), &ran.written)? {
-        Some(replies) => Ok(replies),
+        Some(mut replies) => {
+            let _ = replies.pop();
+            Ok(replies)
+        }
         None => Err(visit.refuse(
             5,
             "the replies of the session were not understood: pots and potshards are of different versions",
@@ -54,21 +91,27 @@ pub fn hold_together<X: Threads + Wait + Sync>(
     visit: &mut Visit,
     commands: Vec<Command>,
 ) -> Result<Vec<Reply>, Stop> {
-    let count = commands.len();
-    if count == 0 {
+    if commands.is_empty() {
         return Ok(Vec::new(visit.alloc()));
     }
-    if count == 1 || count > MOST_TOGETHER {
-        return hold(turns, visit, commands);
+    let batch = batched(visit.alloc(), commands)?;
+    hold(turns, visit, batch)
+}
+
+/// The commands as one batch, where there are several and no more than a batch may have.
+pub fn batched(alloc: Global, commands: Vec<Command>) -> Result<Vec<Command>, AllocError> {
+    let count = commands.len();
+    if count <= 1 || count > MOST_TOGETHER {
+        return Ok(commands);
     }
     let count = u32::try_from(count).unwrap_or(u32::MAX);
-    let mut batch = Vec::new(visit.alloc());
+    let mut batch = Vec::new(alloc);
     batch.push(Command::Together { count })?;
     for command in commands {
         batch.push(command)?;
     }
     batch.push(Command::End)?;
-    hold(turns, visit, batch)
+    Ok(batch)
 }
 
 /// The words of a command line, which stand between spaces.

@@ -1,7 +1,9 @@
 //! The words of the command line.
 
-use crate::init_words::init_command;
-use crate::tending_words::add_tending;
+use crate::commands::{
+    audit, backup_desk, check, drill, fetch, init, list, migrate, place, recover, renew, repair,
+    replace, status, store,
+};
 use clap::{Arg, ArgAction, Command};
 use std::alloc::{AllocError, Global};
 
@@ -15,12 +17,27 @@ pub fn program<'a>(alloc: Global) -> Result<Command<'a>, AllocError> {
         .about("Keeps files in archives of which no few tell anything, without a key")
         .after_help("pots works on the archive in the folder in which it is started. See pots(1).")
         .arg_required_else_help(true)
-        .subcommand(init_command(alloc)?)?
-        .subcommand(store_command(alloc)?)?
-        .subcommand(fetch_command(alloc)?)?
-        .subcommand(list_command(alloc)?)?
-        .subcommand(status_command(alloc)?)?;
+        .subcommand(init::words(alloc)?)?
+        .subcommand(store::words(alloc)?)?
+        .subcommand(fetch::words(alloc)?)?
+        .subcommand(list::words(alloc)?)?
+        .subcommand(status::words(alloc)?)?;
     add_tending(alloc, program)
+}
+
+// Adds the commands that look after archives.
+fn add_tending<'a>(alloc: Global, program: Command<'a>) -> Result<Command<'a>, AllocError> {
+    program
+        .subcommand(check::words(alloc)?)?
+        .subcommand(repair::words(alloc)?)?
+        .subcommand(replace::words(alloc)?)?
+        .subcommand(migrate::words(alloc)?)?
+        .subcommand(renew::words(alloc)?)?
+        .subcommand(place::words(alloc)?)?
+        .subcommand(backup_desk::words(alloc)?)?
+        .subcommand(recover::words(alloc)?)?
+        .subcommand(audit::words(alloc)?)?
+        .subcommand(drill::words(alloc)?)
 }
 
 /// A switch.
@@ -81,52 +98,10 @@ pub fn session_command<'a>(
     command(alloc, name, about)?.arg(option(alloc, "without", "ARCHIVES", help))
 }
 
-fn store_command<'a>(alloc: Global) -> Result<Command<'a>, AllocError> {
-    let command = session_command(
-        alloc,
-        "store",
-        "Store files, each under the last part of its path",
-    )?;
-    command
-        .arg(operands(alloc, "FILE", "The files to store"))?
-        .arg(option(alloc, "as", "NAME", "Store the one file under this name"))
-}
-
-fn fetch_command<'a>(alloc: Global) -> Result<Command<'a>, AllocError> {
-    let command = session_command(
-        alloc,
-        "fetch",
-        "Fetch files, and write them whole or not at all",
-    )?;
-    command
-        .arg(
-            Arg::new(alloc, "NAME")
-                .action(ArgAction::Append)
-                .num_args(0..)
-                .help("The names of the files"),
-        )?
-        .arg(switch(alloc, "all", "Fetch every file"))?
-        .arg(option(
-            alloc,
-            "to",
-            "FOLDER",
-            "Write the files into this folder, which is made where it is missing",
-        ))?
-        .arg(switch(alloc, "force", "Write over files that are there"))
-}
-
-fn list_command<'a>(alloc: Global) -> Result<Command<'a>, AllocError> {
-    command(
-        alloc,
-        "list",
-        "List the files that are stored, with their sizes; dates are not kept",
-    )
-}
-
-fn status_command<'a>(alloc: Global) -> Result<Command<'a>, AllocError> {
-    command(
-        alloc,
-        "status",
-        "Tell how each archive stands by the desk, and how much room is left",
-    )
+/// Numbers of groups, all where there are none.
+pub fn groups<'a>(alloc: Global) -> Arg<'a> {
+    Arg::new(alloc, "GROUP")
+        .action(ArgAction::Append)
+        .num_args(0..)
+        .help("The numbers of groups; all where none is given")
 }

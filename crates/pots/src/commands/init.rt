@@ -1,0 +1,184 @@
+//! `init`: an archive that is made.
+
+use crate::session::{call, ended, words_of};
+use crate::splitting::{geometry_of, number, small};
+use crate::words::{command, option, switch};
+use clap::ArgMatches;
+use pot_bytes::{Geometry, Rack};
+use pot_report::{Plan, Wish, read_size};
+use pots_vault::{MOST_ARCHIVES, Stop, Visit, archive_name};
+use serde_json::json;
+use std::alloc::{AllocError, Global};
+use std::fs;
+use std::sync::Wait;
+use std::thread::Threads;
+
+/// Its words.
+pub fn words<'a>(alloc: Global) -> Result<clap::Command<'a>, AllocError> {
+    let init = command(
+        alloc,
+        "init",
+        "Make an archive in this folder, and tell what follows from its shape",
+    )?
+    .arg(option(
+        alloc,
+        "sites",
+        "N",
+        "At how many places archives are kept, 2 to 16; 3 where it is left out",
+    ))?
+    .arg(option(
+        alloc,
+        "survive",
+        "S",
+        "How many of the places may vanish, at most N - 2; 1 where it is left out, or 0 for two places",
+    ))?
+    .arg(option(
+        alloc,
+        "room",
+        "SIZE",
+        "How much is to be kept, as 20MB, which it is where it is left out",
+    ))?
+    .arg(switch(alloc, "dry-run", "Only tell what would follow"))?;
+    add_numbers(alloc, init)
+}
+
+// The numbers of a rack, each in place of what follows from the wish.
+fn add_numbers<'a>(
+    alloc: Global,
+    init: clap::Command<'a>,
+) -> Result<clap::Command<'a>, AllocError> {
+    init.arg(option(
+        alloc,
+        "groups",
+        "G",
+        "Groups of archives, from the number of shards to 16",
+    ))?
+    .arg(option(alloc, "columns", "C", "Data archives of a group, 1 to 16"))?
+    .arg(option(alloc, "parity", "P", "Parity archives of a group, 1 or 2"))?
+    .arg(option(alloc, "stripes", "Z", "Blocks of an archive, 1 to 4096"))?
+    .arg(option(alloc, "fragments", "K", "Fragments of a piece, 2 to 8"))?
+    .arg(option(alloc, "need", "M", "Shards that give a fragment, 1 to N"))?
+    .arg(option(alloc, "shards", "N", "Shards of a fragment, at most 16"))?
+    .arg(option(
+        alloc,
+        "blur",
+        "B",
+        "Low bits that a pointer leaves out, 0 to 63",
+    ))
+}
+
+/// Makes an archive in the working folder, and tells what follows from its shape.
+pub fn work<X: Threads + Wait + Sync>(
+    turns: &X,
+    visit: &mut Visit,
+    words: &ArgMatches,
+) -> Result<u8, Stop> {
+    let plan = planned(visit, words)?;
+    if !words.get_flag("dry-run") {
+        look_for_archives(visit)?;
+        make(turns, visit, &plan.rack)?;
+    }
+    tell_plan(visit, &plan)?;
+    Ok(0)
+}
+
+// Ends the command where an archive of this folder has blocks: a new desk would let them be written
+// over.
+fn look_for_archives(visit: &Visit) -> Result<(), Stop> {
+    for number in 0..MOST_ARCHIVES {
+        let name = archive_name(visit.alloc(), number)?;
+        let name = name.as_str();
+        match fs::metadata(&visit.rt, name) {
+            Ok(file) if file.len() > 0 => {
+                let line = format!(in visit.alloc();
+                    "there is an archive in this folder already, with blocks in {name}, and it stays as it is: make the new one in another folder; where the desk is gone, put a copy back, as potshards-recovery(7) tells, or get files back with pots recover"
+                )?;
+                return Err(visit.refuse(10, line.as_str()));
+            }
+            _ => {}
+        }
+    }
+    Ok(())
+}
+
+// The shape that is asked for.
+fn planned(visit: &Visit, words: &ArgMatches) -> Result<Plan, Stop> {
+    let sites = number(visit, words, "sites", 3)?;
+    let survive = number(visit, words, "survive", if sites == 2 { 0 } else { 1 })?;
+    let room = room_asked(visit, words)?;
+    let wish = Wish {
+        sites: small(sites),
+        survive: small(survive),
+        room,
+    };
+    let wished = match wish.plan() {
+        Ok(plan) => plan,
+        Err(why) => return Err(visit.refuse(2, format!(in visit.alloc(); "{why}")?.as_str())),
+    };
+    match Plan::of(with_numbers(visit, words, wished.rack)?) {
+        Ok(plan) => Ok(plan),
+        Err(why) => Err(visit.refuse(2, format!(in visit.alloc(); "{why}")?.as_str())),
+    }
+}
+
+fn room_asked(visit: &Visit, words: &ArgMatches) -> Result<u64, Stop> {
+    match read_size(words.get_str("room").unwrap_or("20MB")) {
+        Some(room) => Ok(room),
+        None => Err(visit.refuse(2, "--room takes a size, as 20MB or 512KiB")),
+    }
+}
+
+// A rack with those numbers in the place of its own that the words give.
+fn with_numbers(visit: &Visit, words: &ArgMatches, own: Rack) -> Result<Rack, Stop> {
+    Ok(Rack {
+        groups: small(number(visit, words, "groups", u32::from(own.groups))?),
+        columns: small(number(visit, words, "columns", u32::from(own.columns))?),
+        parity: small(number(visit, words, "parity", u32::from(own.parity))?),
+        stripes: number(visit, words, "stripes", own.stripes)?,
+        geometry: geometry_of(visit, words, own.geometry)?,
+    })
+}
+
+// Makes the image of an empty archive.
+fn make<X: Threads + Wait + Sync>(turns: &X, visit: &mut Visit, rack: &Rack) -> Result<(), Stop> {
+    let line = init_line(visit, rack)?;
+    let words = words_of(visit.alloc(), line.as_str())?;
+    let ran = call(turns, visit, &words, Vec::new(visit.alloc()))?;
+    if ran.status == 0 {
+        Ok(())
+    } else {
+        Err(ended(visit, &ran))
+    }
+}
+
+fn init_line(visit: &Visit, rack: &Rack) -> Result<String, Stop> {
+    let Rack {
+        groups,
+        columns,
+        parity,
+        stripes,
+        geometry,
+    } = *rack;
+    let Geometry {
+        fragments,
+        need,
+        shards,
+        blur,
+    } = geometry;
+    Ok(format!(in visit.alloc();
+        "init --groups {groups} --columns {columns} --parity {parity} --stripes {stripes} --fragments {fragments} --need {need} --shards {shards} --blur {blur}"
+    )?)
+}
+
+fn tell_plan(visit: &Visit, plan: &Plan) -> Result<(), Stop> {
+    if visit.json {
+        let rack = &plan.rack;
+        let line =
+            json!(in visit.alloc(); {"groups": rack.groups, "columns": rack.columns, "parity": rack.parity, "stripes": rack.stripes, "fragments": rack.geometry.fragments, "need": rack.geometry.need, "shards": rack.geometry.shards, "blur": rack.geometry.blur})?;
+        let line = line.to_string(visit.alloc())?;
+        println!(visit; "{line}")
+    } else {
+        let text = plan.text(visit.alloc())?;
+        print!(visit; "{text}")
+    }
+}

@@ -1,0 +1,152 @@
+//! `recover`: files that are got back without the desk.
+
+use crate::session::words_of;
+use crate::words::{command, option, switch};
+use clap::ArgMatches;
+use pot_doubles::{MemSink, MemSource};
+use pot_files::NoGate;
+use pot_report::{Found, read_found};
+use pot_session::run;
+use pots_remains::{
+    Given, Reach, Remains, Survey, no_tallies, reach_of, reason, tell_gone, tell_nothing,
+    tell_tallies, write_all,
+};
+use pots_vault::{Stop, Visit, make_folder};
+use std::alloc::{AllocError, Global};
+use std::sync::Wait;
+use std::thread::Threads;
+
+/// Its words.
+pub fn words<'a>(alloc: Global) -> Result<clap::Command<'a>, AllocError> {
+    let about = "Get files back from the blocks alone, without the desk";
+    command(alloc, "recover", about)?
+        .arg(option(alloc, "to", "FOLDER", "Write the files into this folder").required(true))?
+        .arg(option(
+            alloc,
+            "archives",
+            "N",
+            "Read archives 0 to N - 1; all that are here where it is left out",
+        ))?
+        .arg(option(
+            alloc,
+            "stripes",
+            "Z",
+            "Read so many blocks of each; all where it is left out",
+        ))?
+        .arg(option(
+            alloc,
+            "blur",
+            "B",
+            "The low bits that pointers leave out; as the first block says where it is left out",
+        ))?
+        .arg(switch(
+            alloc,
+            "robust",
+            "Bear wrong shares, where there are more than enough",
+        ))?
+        .arg(option(
+            alloc,
+            "without",
+            "ARCHIVES",
+            "Leave these archives out, as 4,5: their blocks are made anew where the others give them",
+        ))?
+        .arg(option(
+            alloc,
+            "columns",
+            "C",
+            "Data archives of a group, by which a missing one is made anew; as the blocks say where it is left out",
+        ))?
+        .arg(option(
+            alloc,
+            "parity",
+            "P",
+            "Parity archives of a group; as the blocks say where it is left out",
+        ))
+}
+
+/// Gets files back from the blocks alone.
+pub fn work<X: Threads + Wait + Sync>(
+    turns: &X,
+    visit: &mut Visit,
+    words: &ArgMatches,
+) -> Result<u8, Stop> {
+    let survey = Survey::of(visit)?;
+    let reach = reach_of(visit, &given_in(words), &survey)?;
+    let folder = words.get_str("to").unwrap_or(".");
+    make_folder(visit, folder)?;
+    let complete = tell_gone(visit, &survey, reach)?;
+    let line = recover_line(visit, words, reach)?;
+    let (status, found, room) = read_all(turns, visit, line.as_str(), (survey, reach))?;
+    let sound = tell_tallies(visit, &room)?;
+    if found.is_empty() {
+        tell_nothing(visit);
+        return Ok(1);
+    }
+    let good = write_all(visit, folder, found)?;
+    Ok(if complete && sound && good { status } else { 1 })
+}
+
+fn given_in<'a>(words: &'a ArgMatches) -> Given<'a> {
+    Given {
+        archives: words.get_str("archives"),
+        stripes: words.get_str("stripes"),
+        blur: words.get_str("blur"),
+        columns: words.get_str("columns"),
+        parity: words.get_str("parity"),
+    }
+}
+
+fn recover_line(visit: &Visit, words: &ArgMatches, reach: Reach) -> Result<String, Stop> {
+    let Reach {
+        archives,
+        stripes,
+        blur,
+        ..
+    } = reach;
+    let mut line = format!(in visit.alloc();
+        "recover --archives {archives} --stripes {stripes} --blur {blur}"
+    )?;
+    if words.get_flag("robust") {
+        line.push_str(" --robust yes")?;
+    }
+    Ok(line)
+}
+
+// What the blocks give, the status of the reading, and the archives as they were read.
+fn read_all<X: Threads + Wait + Sync>(
+    turns: &X,
+    visit: &mut Visit,
+    line: &str,
+    (survey, reach): (Survey, Reach),
+) -> Result<(u8, Vec<Found>, Remains), Stop> {
+    let alloc = visit.alloc();
+    let words = words_of(alloc, line)?;
+    let tallies = no_tallies(&visit.rt, reach.archives)?;
+    let mut room = Remains::new(&visit.rt, survey, reach.shape, tallies);
+    let mut source = MemSource::new(Vec::new(alloc), Vec::new(alloc));
+    let mut sink = MemSink::new(alloc, Vec::new(alloc));
+    // No random bytes are needed to read.
+    let seed = [0u8; 32];
+    let desk = &mut visit.desk;
+    let status = run(
+        turns,
+        alloc,
+        &words,
+        seed,
+        &mut source,
+        &mut sink,
+        &mut room,
+        desk,
+        &NoGate,
+    );
+    if status > 1 {
+        return Err(visit.refuse(status, reason(status)));
+    }
+    match read_found(alloc, sink.written())? {
+        Some(found) => Ok((status, found, room)),
+        None => Err(visit.refuse(
+            5,
+            "what was recovered was not understood: pots and potshards are of different versions",
+        )),
+    }
+}

@@ -1,0 +1,45 @@
+//! The commands, each read once from the first word.
+
+/// A command.
+#[derive(Clone, Copy, Debug, PartialEq, Eq)]
+pub enum Verb {
+    Init,
+    Store,
+    Fetch,
+    List,
+    Status,
+    Check,
+    Repair,
+    Replace,
+    Migrate,
+    Renew,
+    Place,
+    BackupDesk,
+    Recover,
+    Audit,
+    Drill,
+}
+
+impl Verb {
+    /// The command of this name.
+    pub fn of(name: &str) -> Option<Verb> {
+        match name {
+            "init" => Some(Verb::Init),
+            "store" => Some(Verb::Store),
+            "fetch" => Some(Verb::Fetch),
+            "list" => Some(Verb::List),
+            "status" => Some(Verb::Status),
+            "check" => Some(Verb::Check),
+            "repair" => Some(Verb::Repair),
+            "replace" => Some(Verb::Replace),
+            "migrate" => Some(Verb::Migrate),
+            "renew" => Some(Verb::Renew),
+            "place" => Some(Verb::Place),
+            "backup-desk" => Some(Verb::BackupDesk),
+            "recover" => Some(Verb::Recover),
+            "audit" => Some(Verb::Audit),
+            "drill" => Some(Verb::Drill),
+            _ => None,
+        }
+    }
+}
