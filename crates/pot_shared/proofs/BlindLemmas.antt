@@ -94,7 +94,7 @@ module _ {job : ℕ} where
     blinds = (λ alone g. elim (eqb_tells p.group g) [
       | inl here ↦ subst (λ k. blinds_by job old new k ≡ blinds_for k pads (draws_of p.group n)) here.1 (mends.blinds alone ∙ sym (for_group p.group pads n))
       | inr other ↦ (ap (λ (v : GroupPass). blinds_in (filter (of_job job) (added (view_at old g) v))) (ap (λ (r : GroupPasses). view_at r g) mends.is ∙ at_other old p.group g mends.pass other.1)
-        ∙ ap (λ ls. blinds_in (filter (of_job job) ls)) (drop-length (view_at old g).seen)) ∙ sym (for_other p.group g pads n other.0)
+          ∙ ap (λ ls. blinds_in (filter (of_job job) ls)) (drop-length (view_at old g).seen)) ∙ sym (for_other p.group g pads n other.0)
     ]);
   }
     where

@@ -104,12 +104,12 @@ given_none _ blind not = refl
 pub given_more : (answer : Mend) (pads : Pads) (n : ℕ) (blind : List ℕ) → blind ≡ blind_at pads n → stretches pads n ++ given answer blind ≡ stretches pads (n + begins answer)
 given_more answer pads n blind is = elim (did_begin answer) [
   | inl began ↦ (
-    let one : n + 1 ≡ suc n = omega arith in
-    ap (λ a. stretches pads n ++ given a blind) began
-    ∙ (ap (λ b. stretches pads n ++ b ∷ []) is ∙ (sym (stretches_more pads n) ∙ (ap (stretches pads) (sym one) ∙ ap (λ a. stretches pads (n + begins a)) (sym began)))))
+      let one : n + 1 ≡ suc n = omega arith in
+      ap (λ a. stretches pads n ++ given a blind) began
+      ∙ (ap (λ b. stretches pads n ++ b ∷ []) is ∙ (sym (stretches_more pads n) ∙ (ap (stretches pads) (sym one) ∙ ap (λ a. stretches pads (n + begins a)) (sym began)))))
   | inr not ↦ (
-    let same : n ≡ n + begins answer = omega (arith, not) in
-    ap (λ w. stretches pads n ++ w) (given_none answer blind not) ∙ (append-nil (stretches pads n) ∙ ap (stretches pads) same))
+      let same : n ≡ n + begins answer = omega (arith, not) in
+      ap (λ w. stretches pads n ++ w) (given_none answer blind not) ∙ (append-nil (stretches pads n) ∙ ap (stretches pads) same))
 ]
 
 pub none_begun : (answer : Mend) (n : ℕ) → (GoesOn answer → ⊥) → n + begins answer ≡ n
@@ -125,8 +125,8 @@ module _ (told : Type 0) (job : ℕ) (place : Place) (blind : List ℕ) where
   all_its : (answer : Mend) (old new : GroupView) (entries : List Entry) → Row answer old new entries → AllOf (is_of job) entries
   all_its answer old new entries call = elim (did_begin answer) [
     | inl began ↦ (
-      let there : Row mend.Began old new entries = subst (λ a. Row a old new entries) began call in
-      subst (λ es. AllOf (is_of job) es) (sym there.tells.0) (all_one (is_of job) (entry.Begin job place.stripe place.column) (eq-eqb job job refl)))
+        let there : Row mend.Began old new entries = subst (λ a. Row a old new entries) began call in
+        subst (λ es. AllOf (is_of job) es) (sym there.tells.0) (all_one (is_of job) (entry.Begin job place.stripe place.column) (eq-eqb job job refl)))
     | inr not ↦ mend_any job (λ es. AllOf (is_of job) es) (λ e own no. all_one (is_of job) e own) (all_none (is_of job)) told place blind answer old new entries not call
   ]
 
