@@ -121,7 +121,7 @@ module _ {M : Type 0} (see : M → GroupView) (rack : Rack) (names turn : List T
       let m = element_at ms p.group within in
       let its = (e.joined p.group).its_begins in
       let whole : (see m.0).log ≡ entries_of (view_at e.kept p.group).seen ++ entries_of its.0 =
-      sym (entries_all (see m.0).shelves (see m.0).log) ∙ (ap entries_of ((e.closed.each p.group m.0 m.1).seen ∙ its.1) ∙ entries_append (view_at e.kept p.group).seen its.0) in (
+      sym (entries_all (see m.0).shelves (see m.0).blinds (see m.0).log) ∙ (ap entries_of ((e.closed.each p.group m.0 m.1).seen ∙ its.1) ∙ entries_append (view_at e.kept p.group).seen its.0) in (
         (see m.0).log,
         subst (λ ls. slice_get ls p.group ≡ Some (see m.0).log) (sym eg) (slice_get-map (λ x. (see x).log) ms p.group ∙ ap (option_map (λ x. (see x).log)) m.1),
         (job, d, put, kept, subst (λ l. Contains l put) (sym whole) (contains_front (entries_of (view_at e.kept p.group).seen) (entries_of its.0) put has)),
