@@ -68,6 +68,8 @@ line_counted told job group result reply old new is call =
           settled = t.settled;
           first = t.first;
           log = t.log;
+          more = t.more;
+          blinds = t.blinds;
           turn = t.turn;
           call = counts_table told job result t.old t.new t.entries t.call;
         };
