@@ -135,9 +135,9 @@ module _ (t : Table) (rules : IsTable t) (s : ℕ) where
         others = (λ n k ln lk d. set-other with_first (t.data_columns + 1) left2 n k second_wide lk (beside n k (t.data_columns + 1) (omega arith) d) ∙ others n k lk d);
         elsewhere = (λ number slot d. set-elsewhere with_first (t.data_columns + 1) left2 number slot second_wide d ∙ elsewhere number slot d);
         frame = (λ n m x e. elim (put_frames with_first (serving_at t s (t.data_columns + 1)) s q kept2 left2 (second_was kept2 is2) n m x e) [
-              | inl y ↦ frame_one kept q is n m x y
-              | inr y ↦ inr (y.1, inr (inr (two, y.0, y.2)))
-            ]);
+          | inl y ↦ frame_one kept q is n m x y
+          | inr y ↦ inr (y.1, inr (inr (two, y.0, y.2)))
+        ]);
         full = (λ n m x e. elim (full_one kept kept2 is n m x e) [
           | inl y ↦ elim (put_full with_first (serving_at t s (t.data_columns + 1)) s q kept2 left2 (second_was kept2 is2) n m y.0 y.1) [
             | inl z ↦ inl z

@@ -228,9 +228,9 @@ served_kept t u [] s c d n table replays low has fresh = record {
 }
 served_kept t u (e ∷ log) s c d n table replays low has fresh =
     let rest : KeepsServed (after t e) u log s c d n = served_kept (after t e) u log s c d n (after_keeps t e table replays.0) replays.1
-        (omega (arith, low, (sizes_stay t e).0))
-        (served_on t s c d n table low has e replays.0 (λ h. fresh (Contains-append_left (arrival e) (arrivals log) n h)))
-        (λ h. fresh (Contains-append_right (arrival e) (arrivals log) n h)) in
+    (omega (arith, low, (sizes_stay t e).0))
+    (served_on t s c d n table low has e replays.0 (λ h. fresh (Contains-append_left (arrival e) (arrivals log) n h)))
+    (λ h. fresh (Contains-append_right (arrival e) (arrivals log) n h)) in
     record {
       now = rest.now;
       wrote = λ b h. elim h [ inl y ↦ writes_fit t s c d n table low has e replays.0 b y | inr y ↦ rest.wrote b y ];
@@ -241,9 +241,13 @@ pub blocks_remain : BlocksRemain
 blocks_remain t u log shelves s c d n block table replays framed low has fresh was is_d =
     let kept : KeepsServed t u log s c d n = served_kept t u log s c d n table replays low has fresh in
     elim (framed.kept n s block was) [
-      | inl y ↦ inl (y.0, y.1, elim (framed.held n s y.0 y.1) [
-        | inl before ↦ ap digest_of (same_Some y.0 block (sym before ∙ was)) ∙ is_d
-        | inr now ↦ kept.wrote y.0 now
-      ])
+      | inl y ↦ inl (
+        y.0,
+        y.1,
+        elim (framed.held n s y.0 y.1) [
+          | inl before ↦ ap digest_of (same_Some y.0 block (sym before ∙ was)) ∙ is_d
+          | inr now ↦ kept.wrote y.0 now
+        ],
+      )
       | inr y ↦ elim y [ inl z ↦ inr (inl (kept.failed z)) | inr z ↦ inr (inr z) ]
     ]

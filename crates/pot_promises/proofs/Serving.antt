@@ -42,10 +42,14 @@ low_slot t s table lt = omega (arith, lt, table.size.stripes.1)
 still_held : (read : Table) (log : List Entry) (u : Table) (givens : List (List ℕ)) (s c : ℕ) (d : Digest) (n : ℕ) (old new : Meaning) → s < 2 ^ 32 → IsFramed read log givens n old new → KeepsServed read u log s c d n
     → HoldsStill read log s c d old new
 still_held read log u givens s c d n old new low framed kept has = elim (framed.kept s has.0 low has.1) [
-  | inl y ↦ inl (y.0, y.1, elim (framed.held s y.0 low y.1) [
-    | inl before ↦ ap digest_of (same_Some y.0 has.0 (sym before ∙ has.1)) ∙ has.2
-    | inr now ↦ kept.wrote y.0 now
-  ])
+  | inl y ↦ inl (
+    y.0,
+    y.1,
+    elim (framed.held s y.0 low y.1) [
+      | inl before ↦ ap digest_of (same_Some y.0 has.0 (sym before ∙ has.1)) ∙ has.2
+      | inr now ↦ kept.wrote y.0 now
+    ],
+  )
   | inr y ↦ elim y [ inl z ↦ inr (inl (kept.failed z)) | inr z ↦ inr (inr z) ]
 ]
 
@@ -124,7 +128,7 @@ module _ (g s c : ℕ) (d : Digest) (n : ℕ) where
               | inl nowhere ↦ inl (kept.0, (held.0, (closed.others n nowhere none).blocks s ∙ held.1, held.2))
             ]
           ]
-      )
+          )
     ]
   ]
     where
@@ -146,7 +150,7 @@ module _ (g s c : ℕ) (d : Digest) (n : ℕ) where
       let left_rack = ap (λ (r : Rack). r.stripes) closed.leaves.rack in
       let left_wide = ap (λ (r : Rack). r.columns) closed.leaves.rack in
       elim (one_session x closed t written.0 log.0 is_read written.1 log.1 (omega (arith, low, racks, fits.stripes)) (omega (arith, within, wide, fits.data_columns)) has
-        (subst (λ (f : ℕ → Meaning). HoldsOf (f n) s d) (sym is_meant) held)) [
+      (subst (λ (f : ℕ → Meaning). HoldsOf (f n) s d) (sym is_meant) held)) [
         | inl y ↦ elim (in_a_row x.last x.room.after.means xs now rest written.0 written.1 (omega (arith, low, racks, left_rack)) (omega (arith, within, wide, left_wide)) y.0 y.1) [
           | inl z ↦ inl z
           | inr z ↦ inr (inr z)
