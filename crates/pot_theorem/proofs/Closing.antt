@@ -19,4 +19,4 @@ served seed seen answer i steps of fits (Closed closed) = inl (record { read = i
 
 pub runs_close : RunsClose
 runs_close seed seen answer (Stopped s stops refuses same) = inr (inl same)
-runs_close seed seen answer (Served i steps of fits told serves ends untouched) = served seed seen answer i steps of fits serves
+runs_close seed seen answer (Served i steps of rules told serves ends untouched) = served seed seen answer i steps of rules.together serves
