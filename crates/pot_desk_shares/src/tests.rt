@@ -1,0 +1,1 @@
+//! Shares computed apart from this crate, and each subset of some shares.
