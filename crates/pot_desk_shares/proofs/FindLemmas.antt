@@ -1,14 +1,17 @@
 -- Points that are found, and shares that stand at them.
-use Rattle.std.proofs.Common.{◌≡◌, ◌≢◌, ◌≤◌, ◌<◌, ◌⊎◌, inl, inr, ◌+◌, ◌*◌, ◌++◌, ◌∷◌, [], ℕ, zero, suc, Bool, true, false, List, Option, Some, None, MatchOption, length, map, get_or, slice_get, nat_eq, refl, ap, ap₂, sym, subst, ◌∙◌, arith, length-append}
-use Rattle.std.specs.List.{flat_map, AllByRecursion, Contains, IsDistinct}
+use Rattle.std.proofs.Common.{◌≡◌, ◌≢◌, ◌≤◌, ◌<◌, ◌⊎◌, inl, inr, ◌+◌, ◌*◌, ◌++◌, ◌∷◌, ◌&&◌, ◌==◌, [], ℕ, zero, suc, Bool, true, false, List, Option, Some, None, MatchOption, is_some, length, map, take, get_or, slice_get, slice_index_or, nat_eq, refl, ap, ap₂, sym, subst, ◌∙◌, arith, length-append}
+use Rattle.std.specs.List.{flat_map, All, AllByRecursion, Contains, IsDistinct}
 use Rattle.std.proofs.lemmas.Bool.{cases_lt, ne_eqb}
 use Rattle.std.proofs.lemmas.Bool.Decides.{Decides-eqb}
 use Rattle.std.proofs.lemmas.Cmp.{nat_eq_equiv}
-use Rattle.std.proofs.lemmas.List.{length-map}
+use Rattle.std.proofs.lemmas.Grind.{flat_map-append}
+use Rattle.std.proofs.lemmas.List.{append-nil, length-map, map-append, take_more}
+use Rattle.std.proofs.lemmas.List.Elements.{Contains-get_or}
 use Rattle.std.proofs.lemmas.Map.Made.{is_member-Decides, length-le_from_is_member}
 use Rattle.std.proofs.lemmas.Option.{get_or_from_slice_get, same_Some, slice_get-get_or, slice_get_within}
 use Rattle.pot_bytes.proofs.Elements.{contains_back, contains_front, contains_later, none_contained, one_contained}
-use Rattle.pot_desk_shares.specs.Finding.{AreFound, HasHead, IsAt, IsComplete, IsLatest, IsNewer, IsOfComplete, IsThere}
+use Rattle.pot_split.proofs.ThresholdLaws.{one_row_more}
+use Rattle.pot_desk_shares.specs.Finding.{AreFound, AreRows, HasHead, IsAt, IsComplete, IsLatest, IsNewer, IsOfComplete, IsThere}
 use Rattle.pot_desk_shares.specs.Joins.{at_point, point_of, points_of, AreApart, AreEnough, IsHeld, IsNewest}
 use Rattle.pot_desk_shares.specs.declared.share.DeskShare.{DeskShare}
 use Rattle.pot_desk_shares.specs.declared.share.ShareHead.{ShareHead}
@@ -47,6 +50,12 @@ in_either (x ∷ xs) y z (suc k, lt, is) = elim (in_either xs y z (k, omega (ari
   | inl h ↦ inl (contains_later x z xs h)
   | inr e ↦ inr e
 ]
+
+-- the points of shares that are held
+pub point_bounds : (shares : List DeskShare) (h : ShareHead) (s : DeskShare) → IsHeld shares h s → (1 ≤ s.head.point) × (s.head.point < 17)
+point_bounds shares h s held =
+    let ok = held.whole.head in
+    (ok.point_first, omega (arith, ok.point_last, ok.count))
 
 -- THE POINTS THAT ARE FOUND
 
@@ -94,6 +103,27 @@ found_same shares h x points f none = record {
   ];
 }
 
+-- beyond point 16 none is there
+pub found_end : (shares : List DeskShare) (h : ShareHead) (n : ℕ) (points : List ℕ) → AreFound shares h n points → 17 ≤ n
+    → AreFound shares h 17 points
+found_end shares h n points f past = record {
+  distinct = f.distinct;
+  below = λ x c. let at = f.each x c in omega (arith, (point_bounds shares h at.0 at.1).1, at.2);
+  each = f.each;
+  few = f.few;
+  all = λ less x first below there. f.all less x first (omega (arith, below, past)) there;
+}
+
+pub there_of : (shares : List DeskShare) (h : ShareHead) (x : ℕ) (r : Option ℕ) → MatchOption r (¬ IsThere shares h x) (λ at. IsAt shares h x at)
+    → true ≡ is_some r → IsThere shares h x
+there_of shares h x None none e = absurd (cc)
+there_of shares h x (Some at) found e = (found.0, found.2, found.3)
+
+pub none_of : (shares : List DeskShare) (h : ShareHead) (x : ℕ) (r : Option ℕ) → MatchOption r (¬ IsThere shares h x) (λ at. IsAt shares h x at)
+    → false ≡ is_some r → ¬ IsThere shares h x
+none_of shares h x None none e = none
+none_of shares h x (Some at) found e = absurd (cc)
+
 -- SHARES AT POINTS
 
 -- at each point a share
@@ -111,12 +141,6 @@ chosen_at shares h (x ∷ points) each =
         → ((t : DeskShare) → Contains chosen t → IsHeld shares h t) → (t : DeskShare) → Contains (s ∷ chosen) t → IsHeld shares h t
     held_more shares h s chosen first each t (zero, lt, is) = subst (IsHeld shares h) is first
     held_more shares h s chosen first each t (suc k, lt, is) = each t (k, omega (arith, lt), is)
-
--- the points of shares that are held
-pub point_bounds : (shares : List DeskShare) (h : ShareHead) (s : DeskShare) → IsHeld shares h s → (1 ≤ s.head.point) × (s.head.point < 17)
-point_bounds shares h s held =
-    let ok = held.whole.head in
-    (ok.point_first, omega (arith, ok.point_last, ok.count))
 
 -- a point of some shares is that of one of them
 pub of_some : (chosen : List DeskShare) (x : ℕ) → Contains (points_of chosen) x → (s : DeskShare) × Contains chosen s × (s.head.point ≡ x)
@@ -188,11 +212,12 @@ same_set shares h s chosen held e = record {
 -- values of some shares of one length stand row by row
 pub length-values : (long : ℕ) (chosen : List DeskShare) → ((s : DeskShare) → Contains chosen s → length s.body.now ≡ long)
     → length (flat_map (λ (s : DeskShare). s.body.now) chosen) ≡ length chosen * long
-length-values long [] each = refl
+length-values long [] each = omega arith
 length-values long (s ∷ chosen) each =
     let rest = length-values long chosen (λ t c. each t (contains_later s t chosen c)) in
     length-append s.body.now (flat_map (λ (t : DeskShare). t.body.now) chosen)
     ∙ ap₂ (λ (a b : ℕ). a + b) (each s (0, omega arith, refl)) rest
+    ∙ one_row_more long (length chosen)
 
 -- A SEARCH
 
@@ -217,6 +242,26 @@ found_share shares h x (Some at) found =
       point,
     )
 
+-- heads of which a field differs are not the same
+head_test : ShareHead → ShareHead → Bool
+head_test a b =
+    (a.need == b.need) && ((a.count == b.count) && ((a.point == b.point) && ((a.generation == b.generation)
+    && ((a.set == b.set) && (a.length == b.length)))))
+
+test_itself : (a : ShareHead) → head_test a a ≡ true
+unfolding head_test
+test_itself a =
+    rw ((Decides-eqb a.need a.need).1 refl, (Decides-eqb a.count a.count).1 refl, (Decides-eqb a.point a.point).1 refl,
+    (Decides-eqb a.generation a.generation).1 refl, (Decides-eqb a.set a.set).1 refl, (Decides-eqb a.length a.length).1 refl) refl
+
+pub heads_differ : (a b : ShareHead) → false ≡ (a.need == b.need) && ((a.count == b.count) && ((a.point == b.point)
+    && ((a.generation == b.generation) && ((a.set == b.set) && (a.length == b.length))))) → ¬ (a ≡ b)
+unfolding head_test
+heads_differ a b e same =
+    let yes : head_test a b ≡ true = ap (λ (z : ShareHead). head_test z b) same ∙ test_itself b in
+    let no : false ≡ true = e ∙ yes in
+    cc
+
 -- the next share has the head that is wanted, or has it not
 pub not_here : (shares : List DeskShare) (h : ShareHead) (at : ℕ)
     → ((k : ℕ) (s : DeskShare) → k < at → ¬ HasHead shares h k s)
@@ -228,6 +273,13 @@ not_here shares h at before here k s lt has = elim (cases_lt k at) [
 ]
 
 -- THE NEWEST
+
+-- the share that a list gives where it has none
+abbrev pub nobody : DeskShare
+nobody = record {
+  head = record { need = 0; count = 0; point = 0; generation = 0; set = 0; length = 0 };
+  body = record { ref_ptr = (0, 0); now = [] };
+}
 
 same_there : (shares : List DeskShare) (k at : ℕ) (s t : DeskShare) → k ≡ at → slice_get shares at ≡ Some s → slice_get shares k ≡ Some t
     → t.head.generation ≤ s.head.generation
@@ -254,14 +306,15 @@ latest_more shares P at (Some h) s (found, most) here newer p =
 pub latest_same : (shares : List DeskShare) (P : DeskShare → Type 0) (at : ℕ) (best : Option ShareHead) (s : DeskShare)
     → IsLatest shares P at best → slice_get shares at ≡ Some s → (IsNewer s.head best → ¬ P s)
     → IsLatest shares P (at + 1) best
-latest_same shares P at None s none here never k t lt there q = elim (cases_lt k at) [
-  | inl less ↦ none k t less there q
-  | inr ge ↦ (
-      let same : k ≡ at = omega (arith, ge, lt) in
-      let e : t ≡ s = same_Some t s (sym there ∙ ap (slice_get shares) same ∙ here) in
-      never tt (subst P e q)
-    )
-]
+latest_same shares P at None s none here never =
+    λ k t lt there q. elim (cases_lt k at) [
+      | inl less ↦ none k t less there q
+      | inr ge ↦ (
+          let same : k ≡ at = omega (arith, ge, lt) in
+          let e : t ≡ s = same_Some t s (sym there ∙ ap (slice_get shares) same ∙ here) in
+          never tt (subst P e q)
+        )
+    ]
 latest_same shares P at (Some h) s (found, most) here never =
     (found, λ k t lt there q. elim (cases_lt k at) [
       | inl less ↦ most k t less there q
@@ -293,3 +346,58 @@ none_of_latest shares none h complete =
     let one = one_of_complete shares h complete.0 complete.1 in
     let at = place_in shares one.0 one.2.there in
     none at.0 one.0 at.1 at.2 (one.2.whole, (complete.0, same_set shares h one.0 complete.0 one.2 complete.1))
+
+-- the shares at the next point
+pub rows_more : (shares : List DeskShare) (h : ShareHead) (chosen : List DeskShare) (points values new : List ℕ) (i : ℕ) (s : DeskShare)
+    → AreRows shares h chosen (take i points) values → i < length points → IsHeld shares h s → s.head.point ≡ get_or points i 0
+    → new ≡ values ++ s.body.now → AreRows shares h (chosen ++ s ∷ []) (take (i + 1) points) new
+rows_more shares h chosen points values new i s r inside held here e = record {
+  stand = map-append point_of chosen (s ∷ []) ∙ ap₂ (λ (a : List ℕ) (b : ℕ). a ++ b ∷ []) r.stand here ∙ sym (take_more points i 0 inside);
+  rows = flat_map-append (λ (t : DeskShare). t.body.now) chosen (s ∷ []) ∙ ap₂ (λ (a b : List ℕ). a ++ b) r.rows (append-nil s.body.now) ∙ sym e;
+  each = λ t c. elim (in_either chosen s t c) [
+    | inl old ↦ r.each t old
+    | inr same ↦ subst (IsHeld shares h) same held
+  ];
+}
+
+-- WHAT IS JOINED
+
+-- the points and the values of enough shares
+pub record AreReady (shares : List DeskShare) (h : ShareHead) (chosen : List DeskShare) (points values : List ℕ) : Type 0 where
+  pub some : 0 < length points
+  pub few : length points ≤ 16
+  pub not_zero : All (λ x. 0 < x) points
+  pub long : length values ≡ length points * (h.length + 32)
+  pub fits : h.length ≤ 1073741824
+  pub enough : AreEnough shares h chosen
+
+pub fits_of : (shares : List DeskShare) (h : ShareHead) → IsComplete shares h → h.length ≤ 1073741824
+fits_of shares h complete =
+    let one = one_of_complete shares h complete.0 complete.1 in
+    omega (arith, one.2.whole.head.fits, ap (λ (z : ShareHead). z.length) one.2.set)
+
+pub ready : (shares : List DeskShare) (h : ShareHead) (chosen : List DeskShare) (points values : List ℕ) → AreFound shares h 17 points
+    → IsComplete shares h → AreRows shares h chosen points values → AreReady shares h chosen points values
+ready shares h chosen points values f complete r =
+    let one = one_of_complete shares h complete.0 complete.1 in
+    let many = points_of_complete shares h points f complete in
+    let need : h.need ≡ one.0.head.need = sym (ap (λ (z : ShareHead). z.need) one.2.set) in
+    let count : length chosen ≡ length points = sym (length-map chosen point_of) ∙ ap length r.stand in
+    let ok = one.2.whole.head in
+    record {
+      some = omega (arith, many, need, ok.need_first);
+      few = omega (arith, many, need, ok.need_last, ok.count);
+      not_zero = λ k d lt.
+          let at = f.each (slice_index_or points k d) (Contains-get_or points k d lt) in
+          omega (arith, (point_bounds shares h at.0 at.1).0, at.2);
+      long =
+        let each : (s : DeskShare) → Contains chosen s → length s.body.now ≡ h.length + 32 =
+        λ s c. let u = r.each s c in u.whole.long ∙ ap (λ (z : ShareHead). z.length + 32) u.set in
+        sym (ap length r.rows) ∙ length-values (h.length + 32) chosen each ∙ ap (λ (z : ℕ). z * (h.length + 32)) count;
+      fits = fits_of shares h complete;
+      enough = record {
+        some = omega (arith, need, ok.need_first);
+        enough = count ∙ many;
+        apart = record { distinct = subst (IsDistinct nat_eq) (sym r.stand) f.distinct; each = r.each };
+      };
+    }

@@ -1,11 +1,13 @@
 -- Where enough shares of a text stand among others, it is given back.
-use Rattle.std.proofs.Common.{◌≡◌, ◌≤◌, ◌<◌, ◌⊎◌, inl, inr, ◌+◌, ◌++◌, ◌∷◌, [], ℕ, zero, suc, List, length, map, get_or, nat_eq, refl, ap, ap₂, sym, subst, ◌∙◌, arith, lit<}
+use Rattle.std.proofs.Common.{◌≡◌, ◌≤◌, ◌<◌, ◌⊎◌, inl, inr, ◌+◌, ◌++◌, ◌∷◌, [], ℕ, zero, suc, List, Option, Some, None, Result, Ok, Err, IfOk, IfErr, length, map, get_or, nat_eq, refl, ap, ap₂, sym, subst, ◌∙◌, arith, lit<}
 use Rattle.std.specs.List.{flat_map, Contains, IsDistinct}
 use Rattle.std.proofs.lemmas.List.{length-map}
 use Rattle.pot_bytes.specs.Lists.{AreBytes}
 use Rattle.pot_bytes.proofs.Elements.{contains_later}
 use Rattle.pot_split.specs.Threshold.{IsJoin}
-use Rattle.pot_desk_shares.specs.Joins.{at_point, point_of, points_of, AreEnough, AreJoined, IsFault, IsGiven, IsHeld, StandsIn}
+use Rattle.std.proofs.lemmas.Bool.{cases_lt}
+use Rattle.pot_desk_shares.specs.Finding.{AreFound, AreRows, IsComplete, IsLatest}
+use Rattle.pot_desk_shares.specs.Joins.{at_point, point_of, points_of, AreEnough, AreJoined, GivesBack, IsFault, IsGiven, IsHeld, IsNewest, IsWhole, StandsIn}
 use Rattle.pot_desk_shares.specs.Making.{head_of, values_at}
 use Rattle.pot_desk_shares.specs.Shares.{with_digest}
 use Rattle.pot_desk_shares.specs.declared.joining.JoinFault.{JoinFault}
@@ -14,7 +16,7 @@ use Rattle.pot_desk_shares.specs.declared.joining.Joined.{Joined}
 use Rattle.pot_desk_shares.specs.declared.making.Terms.{Terms}
 use Rattle.pot_desk_shares.specs.declared.share.DeskShare.{DeskShare}
 use Rattle.pot_desk_shares.specs.declared.share.ShareHead.{ShareHead}
-use Rattle.pot_desk_shares.proofs.FindLemmas.{one_of_complete, point_bounds}
+use Rattle.pot_desk_shares.proofs.FindLemmas.{all_found, apart_at, complete_by_points, one_of_complete, place_in, point_bounds, AreReady}
 use Rattle.pot_desk_shares.proofs.SetLemmas.{joins_law, length-with_digest, text-with_digest}
 
 points-bytes : (chosen : List DeskShare) → ((s : DeskShare) → Contains chosen s → s.head.point < 256) → AreBytes (points_of chosen)
@@ -72,3 +74,43 @@ only_memory shares t text random (Few h have) stands few = absurd (few.0 (head_o
 only_memory shares t text random (Damaged h) stands bad =
     absurd (bad.3 text (joined_to shares t text random h bad.0 bad.1 stands bad.2))
 only_memory shares t text random NoMemory stands none = refl
+
+pub gives : (shares : List DeskShare) (r : Result Joined JoinFault) → IfOk r (λ j. IsGiven shares j) → IfErr r (λ e. IsFault shares e)
+    → (t : Terms) (text random : List ℕ) → StandsIn shares t text random → GivesBack text r
+gives shares (Ok j) given fault t text random stands = given_back shares t text random j stands given
+gives shares (Err e) given fault t text random stands = only_memory shares t text random e stands fault
+
+-- what the rows of enough shares are joined to
+pub joined_of : (shares : List DeskShare) (h : ShareHead) (chosen : List DeskShare) (points values whole : List ℕ)
+    → AreReady shares h chosen points values → AreRows shares h chosen points values → IsNewest shares h
+    → length whole ≡ h.length + 32 → IsJoin points values whole → AreJoined shares h chosen whole
+joined_of shares h chosen points values whole r rows newest wide join = record {
+  enough = r.enough;
+  newest = newest;
+  join = record {
+    wide = wide;
+    join = subst (λ (z : List ℕ). IsJoin z (flat_map (λ (s : DeskShare). s.body.now) chosen) whole) (sym rows.stand)
+        (subst (λ (z : List ℕ). IsJoin points z whole) (sym rows.rows) join);
+  };
+}
+
+-- why none is given
+pub none_told : (shares : List DeskShare) → IsLatest shares IsWhole (length shares) None → IsFault shares NoShare
+none_told shares none s there whole = let at = place_in shares s there in none at.0 s at.1 at.2 whole
+
+pub few_told : (shares : List DeskShare) (h : ShareHead) (points : List ℕ) (have : ℕ) → ((g : ShareHead) → ¬ IsComplete shares g)
+    → IsLatest shares IsWhole (length shares) (Some h) → AreFound shares h 17 points → have ≡ length points → IsFault shares (Few h have)
+few_told shares h points have none latest f count =
+    let found = latest.0 in
+    let some : 1 ≤ h.need = omega (arith, found.2.head.need_first, ap (λ (z : ShareHead). z.need) found.3) in
+    let less : length points < h.need = elim (cases_lt (length points) h.need) [
+      | inl lt ↦ lt
+      | inr ge ↦ (let same : length points ≡ h.need = omega (arith, ge, f.few) in absurd (none h (complete_by_points shares h points f some same)))
+    ] in
+    let c = apart_at shares h points f in (
+      λ g chosen e. none g (chosen, e),
+      λ s there whole. let at = place_in shares s there in latest.1 at.0 s at.1 at.2 whole,
+      omega (arith, less, count),
+      (c.0, c.1, c.2 ∙ sym count),
+      λ chosen apart. omega (arith, all_found shares h points chosen f less apart, count),
+    )

@@ -94,7 +94,7 @@ fn text_in(whole: Vec<u8>) -> Option<Vec<u8>>
         (λ text. whole.items ≡ with_digest text.items) }
 {
     let mut text = whole;
-    let long = text.len() - 32;
+    let long = text.as_slice().len() - 32;
     let (front, digest) = text.split_at(long);
     if digest_of(front).bytes.as_slice() != digest {
         return None;
@@ -113,7 +113,7 @@ fn why_not(alloc: Global, shares: &[DeskShare]) -> Result<JoinFault, NoMemory>
             let points = points_at(alloc, shares, &head)?;
             Ok(JoinFault::Few {
                 head,
-                have: points.len() as u8,
+                have: points.as_slice().len() as u8,
             })
         }
         None => Ok(JoinFault::NoShare),
@@ -166,7 +166,7 @@ fn is_complete(alloc: Global, shares: &[DeskShare], share: &DeskShare) -> Result
         return Ok(false);
     }
     let points = points_at(alloc, shares, &share.head)?;
-    Ok(points.len() == usize::from(share.head.need))
+    Ok(points.as_slice().len() == usize::from(share.head.need))
 }
 
 /// The points of a set of which a share is there: all, or as many as are needed.
@@ -175,7 +175,8 @@ fn points_at(alloc: Global, shares: &[DeskShare], head: &ShareHead) -> Result<Ve
 {
     let mut points = Vec::new(alloc);
     for point in 1..17 {
-        if points.len() < usize::from(head.need) && find_share(shares, head, point).is_some() {
+        let count = points.as_slice().len();
+        if count < usize::from(head.need) && find_share(shares, head, point).is_some() {
             push_point(&mut points, point)?;
         }
     }

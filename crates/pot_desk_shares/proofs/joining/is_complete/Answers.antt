@@ -1,4 +1,4 @@
-use Rattle.std.proofs.Common.{◌≡◌, ◌≤◌, ◌<◌, ◌+◌, ℕ, List, IsTrue, false, refl, ap, sym, subst, ◌∙◌, arith}
+use Rattle.std.proofs.Common.{◌≡◌, ℕ, List, length, refl, ap, sym, ◌∙◌}
 use Rattle.std.proofs.lemmas.Bool.Decides.{Decides-eqb}
 use Rattle.pot_desk_shares.specs.Finding.{AreFound}
 use Rattle.pot_desk_shares.proofs.FindLemmas.{complete_by_points, points_of_complete}
@@ -11,7 +11,8 @@ returns c =
     let points = c.in_ok-points.points.items in
     let whole = c.if-not-is_whole.ensures.0 refl in
     let same = Decides-eqb c.len.result c.from.result in
-    let found : AreFound shares head 17 points = c.in_ok-points.ensures in (
-      λ yes. (whole, complete_by_points shares head points found whole.head.need_first (sym c.len.ensures ∙ same.0 yes ∙ c.from.ensures)),
-      λ of. same.1 (c.len.ensures ∙ points_of_complete shares head points found of.1 ∙ sym c.from.ensures),
+    let found : AreFound shares head 17 points = c.in_ok-points.ensures in
+    let long : c.len.result ≡ length points = c.len.ensures ∙ ap length c.as_slice.ensures in (
+      λ yes. (whole, complete_by_points shares head points found whole.head.need_first (sym long ∙ same.0 yes ∙ c.from.ensures)),
+      λ of. same.1 (long ∙ points_of_complete shares head points found of.1 ∙ sym c.from.ensures),
     )
