@@ -205,8 +205,9 @@ fn values_at(
 {
     let mut values = Vec::new(alloc);
     for i in 0..points.len() {
-        if let Some(at) = find_share(shares, head, points[i]) {
-            values.extend_from_slice(shares[at].body)?;
+        match find_share(shares, head, points[i]) {
+            Some(at) => values.extend_from_slice(shares[at].body)?,
+            None => {}
         }
     }
     Ok(values)

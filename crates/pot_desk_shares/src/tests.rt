@@ -84,19 +84,22 @@ fn shares_computed_apart(rt: HostRuntime) -> Result<(), Fail> {
         count: 5,
         generation: 7,
     };
-    assert_eq!(rt; made(alloc, b"hello", &terms, 5)?[69..], HELLO.as_slice());
+    let bytes = made(alloc, b"hello", &terms, 5)?;
+    assert!(rt; &bytes[69..] == HELLO.as_slice());
     let terms = Terms {
         need: 1,
         count: 1,
         generation: 1,
     };
-    assert_eq!(rt; made(alloc, b"", &terms, 1)?[64..], EMPTY.as_slice());
+    let bytes = made(alloc, b"", &terms, 1)?;
+    assert!(rt; &bytes[64..] == EMPTY.as_slice());
     let terms = Terms {
         need: 2,
         count: 3,
         generation: u64::MAX,
     };
-    assert_eq!(rt; made(alloc, b"desk", &terms, 2)?[68..], DESK.as_slice());
+    let bytes = made(alloc, b"desk", &terms, 2)?;
+    assert!(rt; &bytes[68..] == DESK.as_slice());
     Ok(())
 }
 

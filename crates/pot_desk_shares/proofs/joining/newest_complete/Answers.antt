@@ -14,7 +14,6 @@ loop-at-preserved c =
     let here : slice_get shares at ≡ Some s = slice_get-get_or shares at nobody (omega (arith, c.loop-at-test.true)) in
     elim c.if-is_newer.branch [
       | then-is_newer+in_ok-is_complete+then-branch w ↦
-          let v : ℕ = w.if-branch.true in
           subst (IsLatest shares (IsOfComplete shares) (at + 1)) (sym w.best-is)
           (latest_more shares (IsOfComplete shares) at best s c.loop-at.invariant here (w.if-is_newer.ensures.0 refl) (w.in_ok-is_complete.ensures.0 w.if-branch.true))
       | else-is_newer w ↦
@@ -23,7 +22,7 @@ loop-at-preserved c =
           (λ newer p. elim w.else-is_newer.branch [
             | else-is_newer-via-then-is_newer+in_ok-is_complete+else-branch w' ↦
                 let yes = w'.in_ok-is_complete.ensures.1 p in
-                let no : ℕ = w'.if-branch.false in
+                let no = w'.if-branch.false in
                 cc
             | else-is_newer-via-else-is_newer w' ↦
                 let yes : IsTrue false = w'.if-is_newer.ensures.1 newer in

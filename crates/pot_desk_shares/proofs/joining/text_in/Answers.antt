@@ -9,8 +9,8 @@ use Rattle.pot_desk_shares.proofs.joining.text_in.Goals as goal
 
 pub returns-then-ne : goal.returns-then-ne
 returns-then-ne c text is =
-    let n = c.len-long.result - 32 in
-    let long : length text ≡ n = omega (arith, c.len-long.ensures, ap length c.as_slice.ensures, ap length is, length-with_digest text) in
+    let n = length c.as_slice.result.now - 32 in
+    let long : length text ≡ n = omega (arith, ap length c.as_slice.ensures.value, ap length is, length-with_digest text) in
     let whole = c.deref.ensures.value ∙ is in
     let front : c.split_at.result.0.now ≡ text = c.split_at.ensures.front ∙ ap (take n) whole ∙ take_at text (digest_bytes text) n long in
     let back : c.split_at.result.1.now ≡ digest_bytes text = c.split_at.ensures.back ∙ ap (drop n) whole ∙ drop_at text (digest_bytes text) n long in
