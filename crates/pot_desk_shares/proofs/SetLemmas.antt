@@ -5,7 +5,7 @@ use Rattle.std.specs.Int.{w32, byte_at, bytes_high_first, to_be_bytes}
 use Rattle.std.proofs.Math.Nat.{mul-div_cancel, mul-le-mul_right}
 use Rattle.std.proofs.lemmas.List.{drop_at, length-take-le, take_at, take-append-drop}
 use Rattle.byteorder.specs.Endian.{big_number}
-use Rattle.byteorder.specs.Numbers.{big_from-take}
+use Rattle.byteorder.specs.Numbers.{big_from-lt, big_from-take}
 use Rattle.sha2.specs.Sha256.{sha256}
 use Rattle.sha2.specs.Sha256.{digest_bytes as hash_bytes}
 use Rattle.pot_bytes.specs.Digests.{digest_bytes}
@@ -14,9 +14,10 @@ use Rattle.pot_bytes.proofs.DigestLemmas.{length-digest_bytes}
 use Rattle.pot_bytes.proofs.ListLemmas.{AreBytes-append, AreBytes-drop, AreBytes-take}
 use Rattle.pot_split.specs.Secrecy.{IsRows}
 use Rattle.pot_split.specs.Threshold.{explaining, share, shares_at, IsJoin}
+use Rattle.pot_split.proofs.ShareLemmas.{length-share}
 use Rattle.pot_split.proofs.SplitLaws.{threshold_laws}
 use Rattle.pot_desk_shares.specs.Making.{head_of, share_of, values_at, IsSet}
-use Rattle.pot_desk_shares.specs.Shares.{share_bytes, with_digest}
+use Rattle.pot_desk_shares.specs.Shares.{share_bytes, with_digest, IsShare}
 use Rattle.pot_desk_shares.specs.Veils.{explained, IsVeiled, VeilLaws}
 use Rattle.pot_desk_shares.specs.declared.making.Terms.{Terms}
 use Rattle.pot_desk_shares.specs.declared.share.ShareHead.{ShareHead}
@@ -95,6 +96,24 @@ joins_law t text random points joined is bytes apart many wide join =
     (AreBytes-drop 8 random is.random_bytes) bytes apart (omega (arith, length-with_digest text)) rows.1
     (omega (arith, rows.0, many, is.terms.need_first)) wide
     (subst (λ (z : List ℕ). IsJoin points z joined) (values_are text random points) join)
+
+-- what is made is a share
+pub made_law : (t : Terms) (text random : List ℕ) (x : ℕ) → IsSet t text random → 1 ≤ x → x ≤ t.count
+    → IsShare (head_of t text random x) (values_at text random x) (share_of t text random x)
+made_law t text random x is first last = record {
+  head = record {
+    need_first = is.terms.need_first;
+    need_last = is.terms.need_last;
+    count = is.terms.count;
+    point_first = first;
+    point_last = last;
+    fits = is.fits;
+    generation = is.generation;
+    set = big_from-lt 0 8 random is.random_bytes;
+  };
+  whole = length-share (with_digest text) (drop 8 random) x ∙ length-with_digest text;
+  spelled = refl;
+}
 
 -- WHAT FEWER ARE
 

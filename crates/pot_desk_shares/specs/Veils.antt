@@ -1,9 +1,9 @@
 -- What shares tell of their text.
-use Rattle.std.specs.Prelude.{◌≡◌, ◌<◌, ◌++◌, ℕ, List, length, take, drop, nat_eq, slice_index, map}
+use Rattle.std.specs.Prelude.{◌≡◌, ◌≤◌, ◌<◌, ◌++◌, ℕ, List, length, take, drop, nat_eq, slice_index, map}
 use Rattle.std.specs.List.{flat_map, IsDistinct}
 use Rattle.pot_bytes.specs.Lists.{AreBytes}
 use Rattle.pot_split.specs.Threshold.{explaining, ArePoints, IsJoin}
-use Rattle.pot_desk_shares.specs.Making.{share_of, values_at, IsSet}
+use Rattle.pot_desk_shares.specs.Making.{head_of, share_of, values_at, IsSet}
 use Rattle.pot_desk_shares.specs.Shares.{with_digest, IsShare}
 use Rattle.pot_desk_shares.specs.declared.making.Terms.{Terms}
 use Rattle.pot_desk_shares.specs.declared.share.ShareHead.{ShareHead}
@@ -35,9 +35,12 @@ pub record VeilLaws : Type 0 where
   pub back : (t : Terms) (text other seen random : List ℕ) → IsVeiled t text other seen random
       → explained other text seen (explained text other seen random) ≡ random
 
--- The format: a share has one head and one body. Any shares of a set at as many distinct points as
--- are needed are joined to its text and the digest of that, and to nothing else.
+-- What is made is a share, and a share has one head and one body. Any shares of a set at as many
+-- distinct points as are needed are joined to its text and the digest of that, and to nothing else.
 pub record ShareLaws : Type 0 where
+  pub made : (t : Terms) (text random : List ℕ) (x : ℕ) → IsSet t text random → 1 ≤ x
+      → x ≤ t.count
+      → IsShare (head_of t text random x) (values_at text random x) (share_of t text random x)
   pub one_share : (h g : ShareHead) (body other bytes : List ℕ) → IsShare h body bytes
       → IsShare g other bytes → (h ≡ g) × (body ≡ other)
   pub joins : (t : Terms) (text random points joined : List ℕ) → IsSet t text random

@@ -29,7 +29,8 @@ pub enum JoinFault {
     NoShare,
     /// Of no set are enough shares there. Of the newest that is there at all, so many points are.
     Few { head: ShareHead, have: u8 },
-    /// Enough shares of the newest complete set are there, and they are of no text with its digest: one of them is forged.
+    /// Enough shares of the newest complete set are there, and they are of no text with its digest:
+    /// one of them is forged.
     Damaged { head: ShareHead },
     NoMemory,
 }
@@ -54,7 +55,8 @@ impl From<AllocError> for JoinFault {
     }
 }
 
-/// The newest text of which as many shares are there as are needed. Shares of two sets are never joined.
+/// The newest text of which as many shares are there as are needed. Shares of two sets are never
+/// joined.
 ///
 /// # Errors
 /// As `JoinFault` tells.
@@ -200,8 +202,10 @@ fn values_at(
     head: &ShareHead,
     points: &[u8],
 ) -> Result<Vec<u8>, NoMemory>
-    requires { (i : ℕ) → i < length points.now → IsThere shares.now head.now (slice_index points.now i) }
-    ensures { IfOk result (λ values. (chosen : List DeskShare) × AreRows shares.now head.now chosen points.now values.items) }
+    requires { (i : ℕ) → i < length points.now
+        → IsThere shares.now head.now (slice_index points.now i) }
+    ensures { IfOk result (λ values. (chosen : List DeskShare)
+        × AreRows shares.now head.now chosen points.now values.items) }
 {
     let mut values = Vec::new(alloc);
     for i in 0..points.len() {

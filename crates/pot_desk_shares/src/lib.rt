@@ -1,11 +1,16 @@
-//! Shares of a desk: a text of bytes in n shares, of which any m give it back and fewer tell nothing but its length.
+//! Shares of a desk: a text of bytes in n shares, of which any m give it back and fewer tell
+//! nothing but its length.
 //!
-//! It knows bytes alone: no file, no place and no image of a desk. Only `make_share` and `join` take memory.
+//! It knows bytes alone: no file, no place and no image of a desk. Only `make_share` and `join`
+//! take memory.
 //!
-//! 1. What is shared is the text and its SHA-256 behind it, so a share shows no digest of the text: `make_share`.
-//! 2. What is read is exactly what is written, and a digest of its own seals each share: `read_share`.
+//! 1. What is shared is the text and its SHA-256 behind it, so a share shows no digest of the text:
+//!    `make_share`.
+//! 2. What is read is exactly what is written, and a digest of its own seals each share:
+//!    `read_share`.
 //! 3. Of some shares the newest text is given of which as many are there as are needed: `join`.
-//! 4. Any m shares of a set give its text, and fewer are those of every other text of its length: `share_laws`.
+//! 4. Any m shares of a set give its text, and fewer are those of every other text of its length:
+//!    `share_laws`.
 #![tactic(auto)]
 
 mod joining;

@@ -22,7 +22,8 @@ pub struct Terms {
     pub generation: u64,
 }
 
-/// How many random bytes a set of shares takes of a text of so many bytes: 8 for its number, and `need` - 1 rows, each
+/// How many random bytes a set of shares takes of a text of so many bytes: 8 for its number, and
+/// `need` - 1 rows, each
 /// 32 longer than the text.
 pub fn random_len(terms: &Terms, long: u64) -> u64
     requires terms { AreTerms terms.now }
@@ -32,7 +33,8 @@ pub fn random_len(terms: &Terms, long: u64) -> u64
     8 + (u64::from(terms.need) - 1) * (long + 32)
 }
 
-/// The bytes of the share of a text at a point, 1 to `count`. All shares of a set are made by the same random bytes.
+/// The bytes of the share of a text at a point, 1 to `count`. All shares of a set are made by the
+/// same random bytes.
 ///
 /// # Errors
 /// Want of memory.

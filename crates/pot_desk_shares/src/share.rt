@@ -36,7 +36,8 @@ pub struct DeskShare<'a> {
     pub body: &'a [u8],
 }
 
-/// Reads a share. None exactly where the bytes are that of none: also where the digest behind them is another.
+/// Reads a share. None exactly where the bytes are that of none: also where the digest behind them
+/// is another.
 pub fn read_share<'a>(bytes: &'a [u8]) -> Option<DeskShare<'a>>
     ensures { MatchOption result
         ((h : ShareHead) (body : List ℕ) → ¬ IsShare h body bytes.now)

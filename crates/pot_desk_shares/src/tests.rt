@@ -7,7 +7,8 @@ use pot_bytes::NoMemory;
 use std::alloc::Global;
 use std::test::Fail;
 
-/// The last 32 bytes of three shares, which are the digest of all before them, by tools/reader/potdesk.py.
+/// The last 32 bytes of three shares, which are the digest of all before them, by
+/// tools/reader/potdesk.py.
 const HELLO: [u8; 32] = [
     0x09, 0x08, 0x6d, 0xe5, 0x9d, 0x41, 0x50, 0x72, 0xf0, 0xc1, 0x6e, 0x3c, 0xca, 0x64, 0xe5,
     0x89, 0x36, 0xed, 0x47, 0x56, 0x1d, 0x83, 0x5b, 0x11, 0xcc, 0x04, 0x74, 0x26, 0xa6, 0x62,
@@ -143,7 +144,8 @@ fn changed_bytes(rt: HostRuntime) -> Result<(), Fail> {
     Ok(())
 }
 
-/// Of two generations the newer is given where enough of its shares are there, and else the older. Shares of two are not
+/// Of two generations the newer is given where enough of its shares are there, and else the older.
+/// Shares of two are not
 /// joined, and a share that was forged is found out.
 #[test]
 fn generations(rt: HostRuntime) -> Result<(), Fail> {
