@@ -1,4 +1,5 @@
 use Rattle.std.proofs.Common.{◌≡◌, ◌≤◌, ◌<◌, ◌+◌, ◌*◌, ℕ, List, All, length, get_or, refl, ap, ap₂, sym, subst, ◌∙◌, arith}
+use Rattle.std.proofs.lemmas.List.{take_at}
 use Rattle.std.proofs.lemmas.List.Elements.{Contains-get_or}
 use Rattle.std.specs.List.{Contains}
 use Rattle.pot_split.specs.Threshold.{IsJoin}
@@ -43,7 +44,7 @@ share_join-requires-clause-rows c =
     let rows = subst (λ (z : List ℕ). AreRows c.args.shares.now c.args.head.now c.in_ok-values.ensures.0 z c.in_ok-values.values.items) c.deref.ensures.value c.in_ok-values.ensures.1 in
     let r = ready c.args.shares.now c.args.head.now c.in_ok-values.ensures.0 points c.in_ok-values.values.items c.in_ok-points.ensures c.requires.complete rows in
     let wide : length c.deref_mut.result.now ≡ c.args.head.now.length + 32 =
-    ap length c.deref_mut.ensures.value ∙ c.in_ok-whole.ensures.len in
+    c.deref_mut.ensures.len ∙ c.in_ok-whole.ensures.len in
     ap length c.deref-3.ensures.value ∙ r.long
     ∙ ap₂ (λ (a b : ℕ). a * b) (sym (ap length c.deref-2.ensures.value)) (sym wide)
 
@@ -56,14 +57,15 @@ returns-in-Some-clause-given c =
     let rows = subst (λ (z : List ℕ). AreRows shares head c.in_ok-values.ensures.0 z values) c.deref.ensures.value c.in_ok-values.ensures.1 in
     let r = ready shares head c.in_ok-values.ensures.0 points values c.in_ok-points.ensures c.requires.complete rows in
     let wide : length c.deref_mut.result.now ≡ head.length + 32 =
-    ap length c.deref_mut.ensures.value ∙ c.in_ok-whole.ensures.len in
-    let whole : c.share_join.new.out ≡ with_digest c.in-Some.text.items = c.in-Some.ensures in
+    c.deref_mut.ensures.len ∙ c.in_ok-whole.ensures.len in
+    let written = take_at c.share_join.new.out _ c.in_ok-whole.whole.len (c.share_join.auto.out ∙ c.deref_mut.ensures.len) in
+    let whole : c.share_join.new.out ≡ with_digest c.in-Some.text.items = sym written ∙ c.in-Some.ensures in
     let join : IsJoin points values c.share_join.new.out =
     subst (λ (z : List ℕ). IsJoin points z c.share_join.new.out) c.deref-3.ensures.value
     (subst (λ (z : List ℕ). IsJoin z c.deref-3.result.now c.share_join.new.out) c.deref-2.ensures.value c.share_join.ensures) in (
       c.in_ok-values.ensures.0,
       joined_of shares head c.in_ok-values.ensures.0 points values (with_digest c.in-Some.text.items) r rows c.requires.newest
-          (sym (ap length whole) ∙ wide) (subst (IsJoin points values) whole join),
+          (sym (ap length whole) ∙ c.share_join.auto.out ∙ wide) (subst (IsJoin points values) whole join),
     )
 
 pub returns-clause-fault : goal.returns-clause-fault
@@ -75,12 +77,13 @@ returns-clause-fault c =
     let rows = subst (λ (z : List ℕ). AreRows shares head c.in_ok-values.ensures.0 z values) c.deref.ensures.value c.in_ok-values.ensures.1 in
     let r = ready shares head c.in_ok-values.ensures.0 points values c.in_ok-points.ensures c.requires.complete rows in
     let wide : length c.deref_mut.result.now ≡ head.length + 32 =
-    ap length c.deref_mut.ensures.value ∙ c.in_ok-whole.ensures.len in
+    c.deref_mut.ensures.len ∙ c.in_ok-whole.ensures.len in
     let join : IsJoin points values c.share_join.new.out =
     subst (λ (z : List ℕ). IsJoin points z c.share_join.new.out) c.deref-3.ensures.value
     (subst (λ (z : List ℕ). IsJoin z c.deref-3.result.now c.share_join.new.out) c.deref-2.ensures.value c.share_join.ensures) in (
       c.in_ok-values.ensures.0,
       c.share_join.new.out,
-      joined_of shares head c.in_ok-values.ensures.0 points values c.share_join.new.out r rows c.requires.newest wide join,
-      c.in-None.ensures,
+      joined_of shares head c.in_ok-values.ensures.0 points values c.share_join.new.out r rows c.requires.newest
+          (c.share_join.auto.out ∙ wide) join,
+      λ text e. c.in-None.ensures text (take_at c.share_join.new.out _ c.in_ok-whole.whole.len (c.share_join.auto.out ∙ c.deref_mut.ensures.len) ∙ e),
     )
