@@ -1,0 +1,4 @@
+pub mod FindLemmas
+pub mod FormatLemmas
+pub mod GiveLemmas
+pub mod SetLemmas

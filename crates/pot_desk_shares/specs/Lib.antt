@@ -1,0 +1,5 @@
+pub mod Finding
+pub mod Joins
+pub mod Making
+pub mod Shares
+pub mod Veils
