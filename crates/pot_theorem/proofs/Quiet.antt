@@ -170,7 +170,7 @@ settled told = record {
   flying = λ t. stands.flying;
   live = λ t s k ls lk live. absurd (none_live s k live);
   causes = record { faults = λ k lk. inr (omega arith); losses = λ t k lk. tt };
-  frame = λ t. record { held = λ n k b e. nothing_is e; history = λ n b h. absurd (none_contained b h) };
+  frame = λ t. record { held = λ n k b e. nothing_is e; history = λ n b h. absurd (none_contained b h); kept = λ n k b e. nothing_is e };
   blinds = refl;
   heard = λ t. record { givens = []; are = refl; fly = (refl, refl); sums = λ n x h. absurd (none_contained x h) };
 }
@@ -230,6 +230,7 @@ left = record {
       held = λ k b lt e. nothing_is e;
       history = λ b h. absurd (none_contained b h);
       heard = λ x h. absurd (none_contained x h);
+      kept = λ k b lt e. nothing_is e;
     };
   };
   execution = λ t. execution;
@@ -282,6 +283,8 @@ leaves = record {
   opened = λ g x y e is. absurd (none_split x y e is);
   found = λ t. each_opened;
   index_opened = refl;
+  few = omega arith;
+  put = record { puts = λ r brought b p at. absurd (none_contained _ brought.1); once = λ job name mark r h. absurd (none_contained _ h) };
 }
 
 none_ascend : Ascends []
