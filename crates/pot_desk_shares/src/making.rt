@@ -54,7 +54,7 @@ pub fn make_share(
 {
     let secret = append_digest(Vec::from_slice(alloc, text)?)?;
     let mut body = vec![in alloc; 0; secret.len()]?;
-    share_out(&secret, &random[8..], 1, &mut body);
+    share_out(&secret, &random[8..], point, &mut body);
     let head = ShareHead {
         need: terms.need,
         count: terms.count,
