@@ -1,5 +1,5 @@
 -- Points that are found, and shares that stand at them.
-use Rattle.std.proofs.Common.{◌≡◌, ◌≢◌, ◌≤◌, ◌<◌, ◌⊎◌, inl, inr, ◌+◌, ◌*◌, ◌++◌, ◌∷◌, ◌&&◌, ◌==◌, [], ℕ, zero, suc, Bool, true, false, List, Option, Some, None, MatchOption, is_some, length, map, take, get_or, slice_get, slice_index_or, nat_eq, refl, ap, ap₂, sym, subst, ◌∙◌, arith, length-append}
+use Rattle.std.proofs.Common.{◌≡◌, ◌≢◌, ◌≤◌, ◌<◌, ◌⊎◌, inl, inr, ◌+◌, ◌*◌, ◌++◌, ◌∷◌, ◌&&◌, ◌==◌, [], ℕ, zero, suc, Bool, true, false, List, Option, Some, None, MatchOption, is_some, length, take, get_or, slice_get, slice_index_or, nat_eq, refl, ap, ap₂, sym, subst, ◌∙◌, arith, length-append}
 use Rattle.std.specs.List.{flat_map, All, AllByRecursion, Contains, IsDistinct}
 use Rattle.std.proofs.lemmas.Bool.{cases_lt, ne_eqb}
 use Rattle.std.proofs.lemmas.Bool.Decides.{Decides-eqb}
@@ -251,8 +251,14 @@ head_test a b =
 test_itself : (a : ShareHead) → head_test a a ≡ true
 unfolding head_test
 test_itself a =
-    rw ((Decides-eqb a.need a.need).1 refl, (Decides-eqb a.count a.count).1 refl, (Decides-eqb a.point a.point).1 refl,
-    (Decides-eqb a.generation a.generation).1 refl, (Decides-eqb a.set a.set).1 refl, (Decides-eqb a.length a.length).1 refl) refl
+    rw (
+      (Decides-eqb a.need a.need).1 refl,
+      (Decides-eqb a.count a.count).1 refl,
+      (Decides-eqb a.point a.point).1 refl,
+      (Decides-eqb a.generation a.generation).1 refl,
+      (Decides-eqb a.set a.set).1 refl,
+      (Decides-eqb a.length a.length).1 refl,
+    ) refl
 
 pub heads_differ : (a b : ShareHead) → false ≡ (a.need == b.need) && ((a.count == b.count) && ((a.point == b.point)
     && ((a.generation == b.generation) && ((a.set == b.set) && (a.length == b.length))))) → ¬ (a ≡ b)
@@ -291,16 +297,20 @@ same_there shares k at s t same here there =
 pub latest_more : (shares : List DeskShare) (P : DeskShare → Type 0) (at : ℕ) (best : Option ShareHead) (s : DeskShare)
     → IsLatest shares P at best → slice_get shares at ≡ Some s → IsNewer s.head best → P s
     → IsLatest shares P (at + 1) (Some s.head)
-latest_more shares P at None s none here newer p =
-    ((s, contained_at shares at s here, p, refl), λ k t lt there q. elim (cases_lt k at) [
-      | inl less ↦ absurd (none k t less there q)
-      | inr ge ↦ (let same : k ≡ at = omega (arith, ge, lt) in same_there shares k at s t same here there)
-    ])
-latest_more shares P at (Some h) s (found, most) here newer p =
-    ((s, contained_at shares at s here, p, refl), λ k t lt there q. elim (cases_lt k at) [
-      | inl less ↦ omega (arith, most k t less there q, newer)
-      | inr ge ↦ (let same : k ≡ at = omega (arith, ge, lt) in same_there shares k at s t same here there)
-    ])
+latest_more shares P at None s none here newer p = (
+  (s, contained_at shares at s here, p, refl),
+  λ k t lt there q. elim (cases_lt k at) [
+    | inl less ↦ absurd (none k t less there q)
+    | inr ge ↦ (let same : k ≡ at = omega (arith, ge, lt) in same_there shares k at s t same here there)
+  ],
+)
+latest_more shares P at (Some h) s (found, most) here newer p = (
+  (s, contained_at shares at s here, p, refl),
+  λ k t lt there q. elim (cases_lt k at) [
+    | inl less ↦ omega (arith, most k t less there q, newer)
+    | inr ge ↦ (let same : k ≡ at = omega (arith, ge, lt) in same_there shares k at s t same here there)
+  ],
+)
 
 -- the first shares and the next, which is no newer or has not P
 pub latest_same : (shares : List DeskShare) (P : DeskShare → Type 0) (at : ℕ) (best : Option ShareHead) (s : DeskShare)
@@ -313,32 +323,36 @@ latest_same shares P at None s none here never =
           let same : k ≡ at = omega (arith, ge, lt) in
           let e : t ≡ s = same_Some t s (sym there ∙ ap (slice_get shares) same ∙ here) in
           never tt (subst P e q)
-        )
+          )
     ]
-latest_same shares P at (Some h) s (found, most) here never =
-    (found, λ k t lt there q. elim (cases_lt k at) [
-      | inl less ↦ most k t less there q
-      | inr ge ↦ (
-          let same : k ≡ at = omega (arith, ge, lt) in
-          let e : t ≡ s = same_Some t s (sym there ∙ ap (slice_get shares) same ∙ here) in
-          elim (cases_lt h.generation s.head.generation) [
-            | inl newer ↦ absurd (never newer (subst P e q))
-            | inr old ↦ omega (arith, old, ap (λ (z : DeskShare). z.head.generation) e)
-          ]
+latest_same shares P at (Some h) s (found, most) here never = (
+  found,
+  λ k t lt there q. elim (cases_lt k at) [
+    | inl less ↦ most k t less there q
+    | inr ge ↦ (
+        let same : k ≡ at = omega (arith, ge, lt) in
+        let e : t ≡ s = same_Some t s (sym there ∙ ap (slice_get shares) same ∙ here) in
+        elim (cases_lt h.generation s.head.generation) [
+          | inl newer ↦ absurd (never newer (subst P e q))
+          | inr old ↦ omega (arith, old, ap (λ (z : DeskShare). z.head.generation) e)
+        ]
         )
-    ])
+  ],
+)
 
 -- the newest complete set of all is the newest of which enough shares are there
 pub newest_of_latest : (shares : List DeskShare) (h : ShareHead) → IsLatest shares (IsOfComplete shares) (length shares) (Some h)
     → IsComplete shares h × IsNewest shares h
-newest_of_latest shares h (found, most) =
-    (subst (IsComplete shares) found.3 found.2.1, λ g chosen e.
-    let one = one_of_complete shares g chosen e in
-    let s = one.0 in
-    let at = place_in shares s one.2.there in
-    let le : s.head.generation ≤ h.generation =
-    most at.0 s at.1 at.2 (one.2.whole, (chosen, same_set shares g s chosen one.2 e)) in
-    omega (arith, le, ap (λ (z : ShareHead). z.generation) one.2.set))
+newest_of_latest shares h (found, most) = (
+  subst (IsComplete shares) found.3 found.2.1,
+  λ g chosen e.
+      let one = one_of_complete shares g chosen e in
+      let s = one.0 in
+      let at = place_in shares s one.2.there in
+      let le : s.head.generation ≤ h.generation =
+      most at.0 s at.1 at.2 (one.2.whole, (chosen, same_set shares g s chosen one.2 e)) in
+      omega (arith, le, ap (λ (z : ShareHead). z.generation) one.2.set),
+)
 
 pub none_of_latest : (shares : List DeskShare) → IsLatest shares (IsOfComplete shares) (length shares) None
     → (h : ShareHead) → ¬ IsComplete shares h
@@ -391,9 +405,9 @@ ready shares h chosen points values f complete r =
           let at = f.each (slice_index_or points k d) (Contains-get_or points k d lt) in
           omega (arith, (point_bounds shares h at.0 at.1).0, at.2);
       long =
-        let each : (s : DeskShare) → Contains chosen s → length s.body.now ≡ h.length + 32 =
-        λ s c. let u = r.each s c in u.whole.long ∙ ap (λ (z : ShareHead). z.length + 32) u.set in
-        sym (ap length r.rows) ∙ length-values (h.length + 32) chosen each ∙ ap (λ (z : ℕ). z * (h.length + 32)) count;
+          let each : (s : DeskShare) → Contains chosen s → length s.body.now ≡ h.length + 32 =
+          λ s c. let u = r.each s c in u.whole.long ∙ ap (λ (z : ShareHead). z.length + 32) u.set in
+          sym (ap length r.rows) ∙ length-values (h.length + 32) chosen each ∙ ap (λ (z : ℕ). z * (h.length + 32)) count;
       fits = fits_of shares h complete;
       enough = record {
         some = omega (arith, need, ok.need_first);

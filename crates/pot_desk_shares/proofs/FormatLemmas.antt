@@ -1,9 +1,9 @@
 -- What stands in a share is what was written.
 use Rattle.std.proofs.Common.{◌≡◌, ◌≤◌, ◌+◌, ◌-◌, ◌++◌, ◌∷◌, [], ℕ, List, length, take, drop, get_or, refl, ap, ap₂, sym, ◌∙◌, arith, length-append, length-drop}
 use Rattle.std.proofs.Math.Seq.{take-add}
-use Rattle.std.proofs.lemmas.List.{append_assoc, drop_at, drop_more, length-take-le, take_at, take_rest, take-append-drop}
+use Rattle.std.proofs.lemmas.List.{append_assoc, drop_at, drop_more, take_at, take-append-drop}
 use Rattle.byteorder.specs.Endian.{big_bytes, big_number}
-use Rattle.byteorder.specs.Numbers.{big_from-lt, big_number-reads_back}
+use Rattle.byteorder.specs.Numbers.{big_number-reads_back}
 use Rattle.pot_bytes.specs.Digests.{digest_bytes}
 use Rattle.pot_bytes.specs.Lists.{AreBytes}
 use Rattle.pot_bytes.proofs.DigestLemmas.{length-digest_bytes}

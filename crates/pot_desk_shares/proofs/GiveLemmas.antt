@@ -1,13 +1,13 @@
 -- Where enough shares of a text stand among others, it is given back.
-use Rattle.std.proofs.Common.{◌≡◌, ◌≤◌, ◌<◌, ◌⊎◌, inl, inr, ◌+◌, ◌++◌, ◌∷◌, [], ℕ, zero, suc, List, Option, Some, None, Result, Ok, Err, IfOk, IfErr, length, map, get_or, nat_eq, refl, ap, ap₂, sym, subst, ◌∙◌, arith, lit<}
-use Rattle.std.specs.List.{flat_map, Contains, IsDistinct}
+use Rattle.std.proofs.Common.{◌≡◌, ◌≤◌, ◌<◌, inl, inr, ◌+◌, ◌++◌, ◌∷◌, [], ℕ, zero, suc, List, Some, None, Result, Ok, Err, IfOk, IfErr, length, refl, ap, ap₂, sym, subst, ◌∙◌, arith, lit<}
+use Rattle.std.specs.List.{flat_map, Contains}
 use Rattle.std.proofs.lemmas.List.{length-map}
 use Rattle.pot_bytes.specs.Lists.{AreBytes}
 use Rattle.pot_bytes.proofs.Elements.{contains_later}
 use Rattle.pot_split.specs.Threshold.{IsJoin}
 use Rattle.std.proofs.lemmas.Bool.{cases_lt}
 use Rattle.pot_desk_shares.specs.Finding.{AreFound, AreRows, IsComplete, IsLatest}
-use Rattle.pot_desk_shares.specs.Joins.{at_point, point_of, points_of, AreEnough, AreJoined, GivesBack, IsFault, IsGiven, IsHeld, IsNewest, IsWhole, StandsIn}
+use Rattle.pot_desk_shares.specs.Joins.{at_point, point_of, points_of, AreJoined, GivesBack, IsFault, IsGiven, IsHeld, IsNewest, IsWhole, StandsIn}
 use Rattle.pot_desk_shares.specs.Making.{head_of, values_at}
 use Rattle.pot_desk_shares.specs.Shares.{with_digest}
 use Rattle.pot_desk_shares.specs.declared.joining.JoinFault.{JoinFault}

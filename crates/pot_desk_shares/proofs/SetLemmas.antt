@@ -139,9 +139,9 @@ set_law t text other seen random v =
       generation = v.set.generation;
       fits = omega (arith, v.same_length, v.set.fits);
       taken =
-        let whole : length (take 8 random ++ rows) ≡ length random =
-        omega (arith, length-append {A = ℕ} (take 8 random) rows, number_there t text other seen random v, rows-explained t text other seen random v, length-drop {A = ℕ} 8 random, v.set.taken) in
-        whole ∙ v.set.taken ∙ ap (λ (z : ℕ). 8 + (t.need - 1) * (z + 32)) (sym v.same_length);
+          let whole : length (take 8 random ++ rows) ≡ length random =
+          omega (arith, length-append {A = ℕ} (take 8 random) rows, number_there t text other seen random v, rows-explained t text other seen random v, length-drop {A = ℕ} 8 random, v.set.taken) in
+          whole ∙ v.set.taken ∙ ap (λ (z : ℕ). 8 + (t.need - 1) * (z + 32)) (sym v.same_length);
       text_bytes = v.other_bytes;
       random_bytes = AreBytes-append (take 8 random) rows (AreBytes-take 8 random v.set.random_bytes)
           (threshold_laws.bytes (with_digest text) (with_digest other) seen (drop 8 random) (AreBytes-drop 8 random v.set.random_bytes));
@@ -161,7 +161,7 @@ rows_stand : (t : Terms) (text other seen random : List ℕ) → IsVeiled t text
 rows_stand t text other seen random v =
     drop_at (take 8 random) (explaining (with_digest text) (with_digest other) seen (drop 8 random)) 8 (number_there t text other seen random v)
 
-head_with : Terms → ℕ → ℕ → ℕ → ShareHead
+unfoldable pub head_with : Terms → ℕ → ℕ → ℕ → ShareHead
 head_with t x set long =
     record { need = t.need; count = t.count; point = x; generation = t.generation; set = set; length = long }
 

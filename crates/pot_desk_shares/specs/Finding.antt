@@ -1,5 +1,5 @@
 -- What a search among shares finds.
-use Rattle.std.specs.Prelude.{◌≡◌, ◌≤◌, ◌<◌, ℕ, List, Option, Some, None, length, map, nat_eq}
+use Rattle.std.specs.Prelude.{◌≡◌, ◌≤◌, ◌<◌, ℕ, List, Option, Some, None, length, nat_eq}
 use Rattle.std.specs.Prelude.{slice_get, MatchOption}
 use Rattle.std.specs.List.{flat_map, Contains, IsDistinct}
 use Rattle.pot_desk_shares.specs.Joins.{points_of, AreEnough, IsHeld, IsWhole}

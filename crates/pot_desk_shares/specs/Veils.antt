@@ -1,5 +1,5 @@
 -- What shares tell of their text.
-use Rattle.std.specs.Prelude.{◌≡◌, ◌≤◌, ◌<◌, ◌++◌, ℕ, List, length, take, drop, nat_eq, slice_index, map}
+use Rattle.std.specs.Prelude.{◌≡◌, ◌≤◌, ◌<◌, ◌++◌, ℕ, List, length, take, drop, nat_eq, slice_index}
 use Rattle.std.specs.List.{flat_map, IsDistinct}
 use Rattle.pot_bytes.specs.Lists.{AreBytes}
 use Rattle.pot_split.specs.Threshold.{explaining, ArePoints, IsJoin}

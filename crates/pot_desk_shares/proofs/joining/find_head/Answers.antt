@@ -1,4 +1,4 @@
-use Rattle.std.proofs.Common.{◌≡◌, ◌+◌, ℕ, List, IsTrue, false, get_or, refl, ap, sym, subst, ◌∙◌, arith}
+use Rattle.std.proofs.Common.{IsTrue, false, get_or, ap, sym, subst, ◌∙◌}
 use Rattle.std.proofs.lemmas.Option.{get_or_from_slice_get}
 use Rattle.pot_desk_shares.specs.declared.share.DeskShare.{DeskShare}
 use Rattle.pot_desk_shares.specs.Joins.{IsWhole}

@@ -1,4 +1,4 @@
-use Rattle.std.proofs.Common.{List, Option, length, subst}
+use Rattle.std.proofs.Common.{Option, length, subst}
 use Rattle.pot_desk_shares.specs.Finding.{IsLatest, IsOfComplete}
 use Rattle.pot_desk_shares.specs.declared.share.ShareHead.{ShareHead}
 use Rattle.pot_desk_shares.proofs.FindLemmas.{newest_of_latest, none_of_latest}

@@ -1,4 +1,4 @@
-use Rattle.std.proofs.Common.{◌≡◌, ◌≤◌, ◌<◌, ◌+◌, ℕ, List, Option, Some, IsTrue, true, false, get_or, slice_get, refl, ap, sym, subst, ◌∙◌, arith}
+use Rattle.std.proofs.Common.{◌≡◌, ◌+◌, Some, IsTrue, false, get_or, slice_get, refl, sym, subst, arith}
 use Rattle.std.proofs.lemmas.Option.{slice_get-get_or}
 use Rattle.pot_desk_shares.specs.Finding.{IsLatest, IsOfComplete}
 use Rattle.pot_desk_shares.proofs.FindLemmas.{latest_more, latest_same, nobody}

@@ -1,4 +1,4 @@
-use Rattle.std.proofs.Common.{◌≡◌, ◌≤◌, ◌<◌, ◌+◌, ◌++◌, ◌∷◌, [], ℕ, List, length, IsTrue, false, refl, ap, sym, subst, ◌∙◌, arith}
+use Rattle.std.proofs.Common.{◌≡◌, ◌+◌, ◌++◌, ◌∷◌, [], length, ap, sym, subst, ◌∙◌, arith}
 use Rattle.pot_desk_shares.specs.Finding.{AreFound}
 use Rattle.pot_desk_shares.proofs.FindLemmas.{found_end, found_none, found_more, found_same, none_of, there_of}
 use Rattle.pot_desk_shares.proofs.joining.points_at.Goals as goal

@@ -1,9 +1,8 @@
-use Rattle.std.proofs.Common.{◌≡◌, ◌-◌, ◌++◌, ℕ, List, not, length, take, drop, refl, ap, sym, ◌∙◌, arith}
+use Rattle.std.proofs.Common.{◌≡◌, ◌-◌, not, length, take, drop, refl, ap, sym, ◌∙◌, arith}
 use Rattle.std.proofs.lemmas.List.{drop_at, take_at}
 use Rattle.std.proofs.lemmas.Bool.Decides.{Decides-eqb}
 use Rattle.std.proofs.lemmas.Slice.Eq.{slice_eq-Decides}
 use Rattle.pot_bytes.specs.Digests.{digest_bytes}
-use Rattle.pot_desk_shares.specs.Shares.{with_digest}
 use Rattle.pot_desk_shares.proofs.SetLemmas.{length-with_digest}
 use Rattle.pot_desk_shares.proofs.joining.text_in.Goals as goal
 

@@ -1,4 +1,4 @@
-use Rattle.std.proofs.Common.{◌≡◌, ◌++◌, ◌∷◌, [], ℕ, List, IfOk, refl, ap, ap₂, sym, subst, ◌∙◌}
+use Rattle.std.proofs.Common.{◌≡◌, ◌++◌, ◌∷◌, [], ℕ, List, IfOk, ap, ap₂, subst, ◌∙◌}
 use Rattle.byteorder.specs.Endian.{big_bytes}
 use Rattle.pot_desk_shares.specs.Shares.{head_bytes, magic, share_bytes, with_digest}
 use Rattle.pot_desk_shares.proofs.share.share_bytes.Goals as goal
