@@ -98,6 +98,7 @@ OTHER_RUNS = [
     OtherRun("init", ["init", *NARROW], b"ready\n"),
     OtherRun("recover", RECOVER, B, is_filled=True),
     OtherRun("recover-robust", [*RECOVER, "--robust", "yes"], B, is_filled=True),
+    OtherRun("recover-open", [*RECOVER, "--open", "yes"], B, is_filled=True),
     # of two pieces three blocks of the fragment that is seen, and one of the other
     OtherRun("drill", DRILL, b"explained 900 2 8\n", b"900\n%s\n%s\n" % (A, pattern(900, 5))),
     OtherRun("bad-line", ["run"], b"bad line 2\n", b"fetch a\nno line\n", is_filled=True, status=3),

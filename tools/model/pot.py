@@ -12,7 +12,7 @@ pot.py session < stories
 pot.py constants
 pot.py image FILE
 pot.py block FILE SLOT
-pot.py recover FOLDER ARCHIVES STRIPES BLUR [robust]
+pot.py recover FOLDER ARCHIVES STRIPES BLUR [robust|open]
 pot.py run FOLDER WORDS.. < source
 pot.py desk FOLDER FORMAT OUT
 pot.py random group|session SEED COUNT
@@ -62,11 +62,11 @@ def print_block(path, slot):
     return 0
 
 
-def recover(folder, archives, stripes, blur, robust="no"):
+def recover(folder, archives, stripes, blur, way="rings"):
     """Prints what the blocks of a folder's archives give."""
     room = files.FileRoom(folder)
     blocks = [block for number in range(int(archives)) for block in session.read_archive(number, int(stripes), room)]
-    status, texts = recovery.listing(recovery.recover(blocks, int(blur), robust == "robust"))
+    status, texts = recovery.listing(recovery.recover(blocks, int(blur), way))
     sys.stdout.buffer.write(b"".join(texts))
     return status
 

@@ -19,7 +19,7 @@ AnswersAll rack s [] w = Unit {0}
 AnswersAll rack s (c ∷ cs) w = (HasTask rack c.line c.task × Says s c.job c.line c.task c.answer w) × AnswersAll rack s cs w
 
 -- the setting of the passes that a batch began with is that of a job's
-setting_given : (s : Setting) (rack : Rack) (seed : List ℕ) (session : ℕ) (v : Known) (c : Line) → IsLine v c → IsSessionSetting s rack seed session v → IsSessionSetting s rack seed session c.given
+pub setting_given : (s : Setting) (rack : Rack) (seed : List ℕ) (session : ℕ) (v : Known) (c : Line) → IsLine v c → IsSessionSetting s rack seed session v → IsSessionSetting s rack seed session c.given
 setting_given s rack seed session v c its is = record {
   setting = setting_of_stays s rack v c.given its.names its.origin its.index_origin is.setting;
   drawn = is.drawn;

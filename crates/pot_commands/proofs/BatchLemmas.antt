@@ -163,6 +163,10 @@ module _ (v x : Known) (from : ℕ) (cs : List Line) (jobs : AreLines v from cs)
           × (filter (index.is_of c.job) (added (view_at v.index at) (view_at x.index at)) ≡ filter (index.is_of c.job) (added (view_at c.given.index at) (view_at c.done.index at)))
       in_index at = at_place index.is_of index_rows (λ d. refl) v.index x.index from cs (index_carry from cs jobs) joins.index at tells_index (sole.index at) c among
 
+      -- its entries in all that the batch gained are those that it had when it was done
+      pub its_own : (g : ℕ) → filter (of_job c.job) (added (view_at v.groups g) (view_at x.groups g)) ≡ filter (of_job c.job) (added (view_at c.given.groups g) (view_at c.done.groups g))
+      its_own g = (in_group g).2
+
       pub job_alone : JobOnlyWriter c.job c.given c.done
       job_alone = record { groups = λ g. (in_group g).0; index = λ at. (in_index at).0 }
 

@@ -6,14 +6,14 @@ use Rattle.pot_script.specs.declared.command.Command.{Command}
 use Rattle.pot_script.specs.declared.command.Command.TheVariants as commands
 use Rattle.pot_rows.specs.Works.{AllIdle}
 use Rattle.pot_shared.specs.Ready.{GroupPasses}
-use Rattle.pot_shared.specs.Blinds.{Blinds}
+use Rattle.pot_shared.specs.Blinds.{Blinds, most_dropped}
 use Rattle.pot_shared.proofs.BlindLemmas.{blinds_none}
 use Rattle.pot_commands.specs.Blinding.{HasBlinds}
 use Rattle.pot_commands.specs.Sharing.{Common}
 
 module _ (b : Common) (job : ℕ) (c : Command) (old new : GroupPasses) where
   abbrev ByStream : Pads → Pads → Type 0
-  ByStream pads after = Blinds job pads after old new
+  ByStream pads after = Blinds job most_dropped pads after old new
 
   from_stream : (pads after : Pads) → pads ≡ pads_of b.seed b.session job → ByStream pads after → (x : Pads) × ByStream (pads_of b.seed b.session job) x
   from_stream pads after is blinds = (after, subst (λ p. ByStream p after) is blinds)

@@ -29,3 +29,5 @@ pub mod BackLemmas
 pub mod TogetherLemmas
 pub mod UnbegunLemmas
 pub mod BlindLemmas
+pub mod NoRelays
+pub mod DrawnLemmas

@@ -1,6 +1,6 @@
 -- From the jobs of a batch to the step.
 use Rattle.std.proofs.Common.{◌≡◌, ◌<◌, ◌+◌, ◌-◌, ◌*◌, ℕ, suc, inl, inr, true, List, [], ◌∷◌, ◌++◌, length, map, drop, refl, ap, sym, ◌∙◌, subst, arith}
-use Rattle.std.specs.Prelude.{◌&&◌}
+use Rattle.std.specs.Prelude.{◌&&◌, filter}
 use Rattle.std.specs.List.{AllByRecursion}
 use Rattle.std.proofs.lemmas.Bool.{cases_lt}
 use mathlib.Core.Path.{fun_ext}
@@ -20,7 +20,8 @@ use Rattle.pot_shared.specs.Members.{entries_of}
 use Rattle.pot_replies.specs.Settings.{Setting}
 use Rattle.pot_replies.specs.Sections.{Section, MovesThenRest, Follows, IsOfJobs}
 use Rattle.pot_replies.specs.Sessions.{Together, Rows}
-use Rattle.pot_shared.specs.Works.{Known, section_of, gained}
+use Rattle.pot_pads.specs.Pads.{pads_of}
+use Rattle.pot_shared.specs.Works.{Known, blinds_by, blinds_in, of_job, section_of, gained}
 use Rattle.pot_commands.specs.Rows.{IsSessionSetting, HasFilled, Row}
 use Rattle.pot_shared.specs.Going.{Stays, AllOnlyWriters, AllStay, AllExtend}
 use Rattle.pot_commands.specs.declared.beginning.Task.{Task}
@@ -35,6 +36,8 @@ use Rattle.pot_commands.proofs.Brought.{its_setting, is_setting}
 use Rattle.pot_commands.proofs.SharedLemmas.{given_count}
 use Rattle.pot_commands.proofs.BatchLemmas.{batch_all_went}
 use Rattle.pot_commands.proofs.BatchRows.{batch_gives, batch_leaves, batch_brings_none}
+use Rattle.pot_commands.specs.Blinding.{HasBlinds, AreJobsBlinded}
+use Rattle.pot_commands.proofs.DrawnLemmas.{AllBlind, lines_drawn, same_drawn}
 
 -- AT EACH PLACE OF A ROW
 
@@ -192,6 +195,17 @@ module _ (b : Common) (old : Known) where
       λ alone s is. did.0.says alone s (subst (λ (a : Common). IsSessionSetting s a.vault.rack a.seed a.session j.passes) (sym given.0.common) is),
     ),
     zip_say (suc from) cs js ks given.1 did.1,
+  )
+
+  zip_blind : (from : ℕ) (cs : List Command) (js ks : List JobView) → AreGiven b old from cs js → AreDid js ks → AllBlind b (zipped js ks)
+  zip_blind from [] [] [] given did = tt
+  zip_blind from [] [] (k ∷ ks) given did = absurd did
+  zip_blind from [] (j ∷ js) ks given did = absurd given
+  zip_blind from (c ∷ cs) [] ks given did = absurd given
+  zip_blind from (c ∷ cs) (j ∷ js) [] given did = absurd did
+  zip_blind from (c ∷ cs) (j ∷ js) (k ∷ ks) given did = (
+    subst (λ (a : Common). HasBlinds a j.job j.line j.passes.groups k.passes.groups) given.0.common did.0.blinds,
+    zip_blind (suc from) cs js ks given.1 did.1,
   )
 
   zip_joins : (js ks : List JobView) (v x : Known) → AreDid js ks → AllJoined v ks x → KnownJoins v (zipped js ks) x
@@ -385,6 +399,13 @@ module _ (b : Common) (old v x : Known) (from : ℕ) (cs : List Command) (js ks 
       let none = batch_brings_none b.vault.rack b.seed b.session v x from zs are joins say s (setting s (is_setting b.vault.rack b.seed b.session old filled)) (sole s_old) g in
       ap arrivals (sym (same_gain g)) ∙ none
 
+  pub together_blinds : HasFilled b.vault.rack old → AreJobsBlinded b old x
+  together_blinds filled s_old job =
+      let s = its_setting b.vault.rack b.seed b.session old in
+      same_drawn (pads_of b.seed b.session job) (blinds_by job v.groups x.groups) (blinds_by job old.groups x.groups)
+      (λ g. ap (λ l. blinds_in (filter (of_job job) (drop (length l) (view_at x.groups g).seen))) (sym (seen g)))
+      (lines_drawn b v x from zs are joins say (zip_blind b old from cs js ks shared.given did) s (setting s (is_setting b.vault.rack b.seed b.session old filled)) (sole s_old) job)
+
 -- The jobs of a batch were worked.
 pub record AreLinesWorked (b : Common) (old v : Known) (from : ℕ) (cs : List Command) (tasks : List Task) (ks : List JobView) : Type 0 where
   pub given : List JobView
@@ -433,3 +454,6 @@ module _ (b : Common) (old v x : Known) (from : ℕ) (cs : List Command) (tasks 
 
   pub taken_none : HasFilled b.vault.rack old → BringsNone old x
   taken_none = together_none b old v x from cs is.worked.given ks is.can is.can_v is.can_x is.parts.0 is.parts.1 is.worked.shared did is.joined
+
+  pub taken_blinds : HasFilled b.vault.rack old → AreJobsBlinded b old x
+  taken_blinds = together_blinds b old v x from cs is.worked.given ks is.can is.can_v is.can_x is.parts.0 is.parts.1 is.worked.shared did is.joined

@@ -32,6 +32,8 @@ use Rattle.pot_commands.proofs.AnswerLemmas.{stayed_worked}
 use Rattle.pot_commands.proofs.BeginLemmas.{moves_leave}
 use Rattle.pot_commands.proofs.Going.{work_all_went}
 use Rattle.pot_commands.proofs.SharedLemmas.{given_count}
+use Rattle.pot_commands.specs.Blinding.{AreJobsBlinded}
+use Rattle.pot_commands.proofs.DrawnLemmas.{still_blinds}
 
 -- PARTS THAT COME BACK
 
@@ -208,3 +210,6 @@ module _ (b : Common) (old v x : Known) (from : ℕ) (cs : List Command) (js : L
 
   pub back_none : BringsNone old x
   back_none = unbegun_none b old x is.can is.can_x same_both.0 same_both.1
+
+  pub back_blinds : AreJobsBlinded b old x
+  back_blinds = still_blinds b old x same_both.0

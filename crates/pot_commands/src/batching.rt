@@ -19,6 +19,7 @@ ghost use Rattle.pot_commands.specs.Steps.{IsBatched, StepGives, StepLeaves, Ste
 ghost use Rattle.pot_commands.specs.Begun.{HaveTasks, AreMovesBegun};
 ghost use Rattle.pot_shared.specs.Callers.{CanCall, HaveParts};
 ghost use Rattle.pot_commands.specs.Sharing.{common_of};
+ghost use Rattle.pot_commands.specs.Blinding.{AreJobsBlinded};
 ghost use Rattle.pot_commands.specs.Jobs.{JobView, HasPasses, IsDone, Did};
 ghost use Rattle.pot_commands.specs.Jobs.{AreShared, AllJoined, all_replied, replies_in, tasks_in};
 ghost use Rattle.pot_commands.specs.Batches.{BringsNone};
@@ -158,6 +159,7 @@ fn work_begun<A: Archive + Send, W: Gate, X: Threads + Wait + Sync>(
     ensures can { CanCall crew.now.shared.vault.now passes.new }
     ensures went { AllExtend passes.old passes.new }
     ensures stays { AllStay passes.old passes.new }
+    ensures blinds { AreJobsBlinded (common_of crew.now.shared) passes.old passes.new }
     ensures says { let b = common_of crew.now.shared in let batch = Together lines.now in
         let old = passes.old in let new = passes.new in
         (start : Known) → AreMovesBegun b.vault.rack job lines.now tasks.items start old
@@ -208,6 +210,7 @@ pub(crate) fn answer_together<R: Room, W: Gate, X: Threads + Wait + Sync>(
     ensures can { CanCall crew.now.shared.vault.now passes.new }
     ensures went { AllExtend passes.old passes.new }
     ensures stays { AllStay passes.old passes.new }
+    ensures blinds { AreJobsBlinded (common_of crew.now.shared) passes.old passes.new }
     ensures says { let b = common_of crew.now.shared in let batch = Together lines.now in
         let old = passes.old in let new = passes.new in
         MatchResult result

@@ -3,7 +3,7 @@ ghost use Rattle.std.specs.Prelude.{◌≡◌, ◌<◌, true, MatchResult};
 ghost use Rattle.pot_index.specs.Fits.{FitsGeometry};
 ghost use Rattle.pot_rows.specs.Rows.{HasMoreParts};
 ghost use Rattle.pot_replies.specs.Sections.{mine, IsSilent};
-ghost use Rattle.pot_shared.specs.Blinds.{Blinds};
+ghost use Rattle.pot_shared.specs.Blinds.{Blinds, most_dropped};
 ghost use Rattle.pot_shared.specs.Callers.{CanCall, IfOnlyWriterFor};
 ghost use Rattle.pot_shared.specs.Works.{JobWroteOnly};
 ghost use Rattle.pot_store.specs.Stores.{DrawsFrom, StoreRow};
@@ -65,7 +65,7 @@ pub(crate) fn fetch<A: Archive, X: Wait>(
     ensures worked { JobWroteOnly caller.now.job passes.old passes.new }
     ensures says { IfOnlyWriterFor caller.now passes.old passes.new
         (λ s w. s.mends ≡ true → AreFilled s → FetchRow s caller.now.job name.now result w) }
-    ensures blinds { Blinds caller.now.job pads.old pads.new
+    ensures blinds { Blinds caller.now.job most_dropped pads.old pads.new
         passes.old.groups passes.new.groups }
 {
     let mut connection = caller.connection(passes);
@@ -95,7 +95,7 @@ pub(crate) fn renew<A: Archive, X: Wait>(
     ensures says { IfOnlyWriterFor caller.now passes.old passes.new
         (λ s w. s.mends ≡ true → AreFilled s → RenewsFrom s pads geometry.now caller.now.job
         → RenewRow s caller.now.job name.now geometry.now result w) }
-    ensures blinds { Blinds caller.now.job blinds.old blinds.new
+    ensures blinds { Blinds caller.now.job most_dropped blinds.old blinds.new
         passes.old.groups passes.new.groups }
 {
     let mut connection = caller.connection(passes);

@@ -7,6 +7,7 @@ ghost use Rattle.pot_outside.specs.Counts.{Caused};
 ghost use Rattle.pot_replies.specs.Sessions.{jobs_in};
 ghost use Rattle.pot_shared.specs.Callers.{CanCall, HaveParts};
 ghost use Rattle.pot_commands.specs.Sharing.{common_of};
+ghost use Rattle.pot_commands.specs.Blinding.{AreJobsBlinded};
 ghost use Rattle.pot_commands.specs.Failures.{Fails};
 ghost use Rattle.pot_commands.specs.Rows.{HasFilled};
 ghost use Rattle.pot_commands.specs.Ones.{OneEnds};
@@ -56,6 +57,7 @@ fn answer_step<R: Room, W: Gate, X: Threads + Wait + Sync>(
     ensures can { CanCall crew.now.shared.vault.now passes.new }
     ensures went { AllExtend passes.old passes.new }
     ensures stays { AllStay passes.old passes.new }
+    ensures blinds { AreJobsBlinded (common_of crew.now.shared) passes.old passes.new }
     ensures says { let b = common_of crew.now.shared in let its = step_of step.now in
         let old = passes.old in let new = passes.new in
         MatchResult result
@@ -97,6 +99,7 @@ fn work_one<K: Sink, R: Room, W: Gate, X: Threads + Wait + Sync>(
     ensures can { CanCall crew.now.shared.vault.now passes.new }
     ensures went { AllExtend passes.old passes.new }
     ensures stays { AllStay passes.old passes.new }
+    ensures blinds { AreJobsBlinded (common_of crew.now.shared) passes.old passes.new }
     ensures ends { let b = common_of crew.now.shared in
         OneEnds b.vault.rack b.seed b.session job (step_of step.now)
         passes.old passes.new
@@ -162,6 +165,7 @@ pub fn work<K: Sink, R: Room, W: Gate, X: Threads + Wait + Sync>(
     ensures can { CanCall crew.now.shared.vault.now passes.new }
     ensures went { AllExtend passes.old passes.new }
     ensures stays { AllStay passes.old passes.new }
+    ensures blinds { AreJobsBlinded (common_of crew.now.shared) passes.old passes.new }
     ensures took { Took (IsTrue R.A.account.tells) (result ≢ Ending.RoomFailed)
         (asked_by steps.now)
         (R.meaning room.old) (R.meaning room.new)

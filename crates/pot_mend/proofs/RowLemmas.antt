@@ -1,5 +1,5 @@
 -- The repair of a group, place after place, and what its answers say of the section.
-use Rattle.std.proofs.Common.{◌≡◌, ◌<◌, ◌≤◌, inl, inr, ⊎_elim, ℕ, ◌+◌, List, [], ◌∷◌, ◌++◌, length, refl, ap, sym, ◌∙◌, subst, arith, append-nil, eq-eqb}
+use Rattle.std.proofs.Common.{◌≡◌, ◌<◌, ◌≤◌, inl, inr, ⊎_elim, ℕ, ◌+◌, ◌*◌, List, [], ◌∷◌, ◌++◌, length, refl, ap, sym, ◌∙◌, subst, arith, append-nil, eq-eqb}
 use Rattle.std.specs.Prelude.{Contains, filter, Some, None, Ok, Err}
 use Rattle.pot_bytes.specs.declared.rack.Place.{Place}
 use Rattle.pot_bytes.specs.declared.rack.Rack.{Rack}
@@ -30,12 +30,12 @@ use Rattle.pot_mend.specs.declared.fault.MendFault.{MendFault}
 use Rattle.pot_mend.specs.declared.fault.MendFault.TheVariants as fault
 use Rattle.pot_mend.specs.declared.repairing.Repaired.{Repaired}
 use Rattle.pot_shared.specs.Adds.{Adds, Fails, FailsOnce, FindsNext, IsFromOn, IsNextOf}
-use Rattle.pot_shared.specs.Blinds.{Blinds, is_begin}
+use Rattle.pot_shared.specs.Blinds.{Blinds, is_begin, most_dropped}
 use Rattle.pot_mend.specs.Repairs.{NoneAgain, AreRepairs, WasLeft, IsDone, RepairSofar, RepairFails, RepairFills, RepairsPlace, Draws, RepairRow}
 use Rattle.pot_mend.proofs.OrderLemmas.{AtOrAfter, before_or_after, none_before}
 use Rattle.pot_mend.proofs.EntryLemmas.{count_one}
 use Rattle.pot_shared.proofs.AddLemmas.{adds_none, adds_then, next_adds, next_finds, next_from, next_group, once_back, once_front}
-use Rattle.pot_shared.proofs.BlindLemmas.{blinds_quiet, blinds_then, none_adds}
+use Rattle.pot_shared.proofs.BlindLemmas.{blinds_fewer, blinds_none, blinds_then, none_adds, then_quiet}
 use Rattle.pot_mend.proofs.SectionLemmas.{found_was, last_full, not_always, only_in}
 use Rattle.pot_mend.proofs.RepairLemmas.{none_again_more, repairs_wider}
 use Rattle.pot_mend.proofs.PlaceLemmas.{drawn_more}
@@ -48,6 +48,15 @@ pub record Repairing (job g s c : ℕ) (r : Repaired) (pads after : Pads) (old n
   pub stream : after ≡ drawn pads draws
   pub few : r.mended + r.left ≤ length (view_at now g).seen
   pub sofar : RepairSofar job g s c r.mended r.left draws old now
+
+-- the blinds that were drawn before this place, of which one at most was dropped at each
+pub record Drawing (job s c : ℕ) (pads after : Pads) (old now : GroupPasses) : Type 0 where
+  pub blinds : Blinds job (32 * s + c) pads after old now
+  pub column : c ≤ 32
+  pub few : 32 * s + c ≤ most_dropped
+
+pub drawing_begin : {job : ℕ} {pads : Pads} {row : GroupPasses} → AllIdle row → Drawing job 0 0 pads pads row row
+drawing_begin {job} {pads} {row} idle = record { blinds = blinds_none idle; column = omega arith; few = omega arith }
 
 none_in : (e : Entry) → Contains [] e → ⊥
 none_in e has = (let lt = has.1 in absurd (omega (arith, lt)))
@@ -206,8 +215,8 @@ module _ (told : Type 0) (job : ℕ) (rack : Rack) (names : List TurnName) (g s 
     pub group_work : RowWroteOnlyFor (of_job job) u x
     group_work = row_work_in_parts (of_job job) u v x sofar.sofar.adds.worked last_more.worked
 
-    pub group_blinds : Blinds job pads after u v → Blinds job pads after u x
-    group_blinds before = blinds_then before (blinds_quiet (none_adds job g [] v x refl last_more))
+    pub group_blinds : Drawing job s c pads after u v → Blinds job most_dropped pads after u x
+    group_blinds before = blinds_fewer (then_quiet before.blinds (none_adds job g [] v x refl last_more)) before.few
 
     pub group_draws : Draws job g pads after u x
     group_draws =
@@ -232,6 +241,20 @@ module _ (told : Type 0) (job : ℕ) (rack : Rack) (names : List TurnName) (g s 
     found_from : IsFromOn s c p
     found_from = next_from told job rack names g s c kind.Unsound (Some p) v x within ready call p refl
 
+    -- one of few places
+    found_small : (p.stripe < 4096) × (p.column < 18)
+    found_small =
+        let sizes = call.turn.settled_old.sizes in
+        let a = sizes.0 in
+        let b = sizes.1 in
+        let d = sizes.2 in
+        let columns = call.turn.read.size.data_columns.1 in
+        let parity = call.turn.read.size.parity.1 in
+        let stripes = call.turn.read.size.stripes.1 in
+        let stripe = call.turn.call.2.1.0.0.0 in
+        let column = call.turn.call.2.1.0.0.1 in
+        (omega (arith, stripe, d, stripes), omega (arith, column, a, b, columns, parity))
+
     found_few : r.mended + r.left ≤ length (view_at x p.group).seen
     found_few = subst (λ n. r.mended + r.left ≤ length (view_at x n).seen) (sym found_group) (let a = found_more.grew in let b = sofar.few in omega (arith, a, b))
 
@@ -240,8 +263,19 @@ module _ (told : Type 0) (job : ℕ) (rack : Rack) (names : List TurnName) (g s 
         (repair_found job g s c r.mended r.left sofar.draws u v x sofar.sofar found_more p found_finds found_from)
 
     module _ (after' : Pads) (w : GroupPasses) where
-      pub found_blinds : Blinds job pads after u v → Blinds job after after' x w → Blinds job pads after' u w
-      found_blinds before place = blinds_then (blinds_then before (blinds_quiet (none_adds job g [] v x refl found_more))) place
+      pub found_drawing : Drawing job s c pads after u v → Blinds job 1 after after' x w → Drawing job p.stripe (p.column + 1) pads after' u w
+      found_drawing before place = record {
+        blinds = blinds_then (then_quiet before.blinds (none_adds job g [] v x refl found_more)) place (later before found_from);
+        column = (let small = found_small.1 in omega (arith, small));
+        few = (let stripe = found_small.0 in let column = found_small.1 in omega (arith, stripe, column));
+      }
+        where
+          later : Drawing job s c pads after u v → IsFromOn s c p → (32 * s + c) + 1 ≤ 32 * p.stripe + (p.column + 1)
+          later d (inl lt) = (let column = d.column in omega (arith, lt, column))
+          later d (inr (same, le)) = omega (arith, same, le)
+
+      pub stop_blinds : Drawing job s c pads after u v → Blinds job 1 after after' x w → Blinds job most_dropped pads after' u w
+      stop_blinds before place = (let d = found_drawing before place in blinds_fewer d.blinds d.few)
 
       module _ (more : Repaired) (place : RepairsPlace job p (Ok more) after after' x w) where
         -- all that was counted has entries

@@ -3,7 +3,7 @@ ghost use Rattle.std.specs.Prelude.{◌≡◌, ◌<◌, length};
 ghost use Rattle.pot_rows.specs.Works.{RowWroteOnlyFor, RowOnlyWriterOf};
 ghost use Rattle.pot_replies.specs.Settings.{Setting};
 ghost use Rattle.pot_shared.specs.Ready.{AreReady, HasSlot};
-ghost use Rattle.pot_shared.specs.Blinds.{Blinds};
+ghost use Rattle.pot_shared.specs.Blinds.{Blinds, most_dropped};
 ghost use Rattle.pot_shared.specs.Works.{of_job, known, section_of, IsSettingOf};
 ghost use Rattle.pot_mend.specs.Repairs.{RepairsPlace, RepairRow, Draws};
 
@@ -49,7 +49,7 @@ pub fn repair_group<A: Archive, R: Wait>(
         (section_of (known passes.old.groups passes.old.index)
         (known passes.new.groups passes.new.index)) }
     ensures stream { Draws job group pads.old pads.new passes.old.groups passes.new.groups }
-    ensures blinds { Blinds job pads.old pads.new passes.old.groups
+    ensures blinds { Blinds job most_dropped pads.old pads.new passes.old.groups
         passes.new.groups }
 {
     let mut repaired = Repaired { mended: 0, left: 0 };
@@ -87,7 +87,7 @@ fn repair_place<A: Archive, R: Wait>(
     ensures index { passes.new.index ≡ passes.old.index }
     ensures repairs { RepairsPlace job place result pads.old pads.new passes.old.groups
         passes.new.groups }
-    ensures blinds { Blinds job pads.old pads.new passes.old.groups
+    ensures blinds { Blinds job 1 pads.old pads.new passes.old.groups
         passes.new.groups }
 {
     let mending = vault.mend_place(rt, passes, job, place, pads);

@@ -84,25 +84,25 @@ module _ (i : Image) where
   one_answer bytes (inr p) r (inr t) = by_front bytes p.1 r t.1
 
 -- The desk has bytes that are answered with the image of these contents, or not at all.
-abbrev IsReadAs : Option (List ℕ) → Contents → Type 0
+abbrev pub IsReadAs : Option (List ℕ) → Contents → Type 0
 IsReadAs held v = (bytes : List ℕ) × (held ≡ Some bytes) × ((r : Result Image ImageFault) → AnswersImage bytes r → IsThat v r)
 
 -- so it is where they are its bytes, and where they were read
-held_read : (held : Option (List ℕ)) (i : Image) → HoldsImage held i → IsReadAs held (contents i)
+pub held_read : (held : Option (List ℕ)) (i : Image) → HoldsImage held i → IsReadAs held (contents i)
 held_read held i (bytes, is, answers) = (bytes, is, one_answer i bytes answers)
 
 has_read : (held : Option (List ℕ)) (v : Contents) → HasImage held v → IsReadAs held v
 has_read held v (is, rules) = (image_bytes v, is, answers_back v rules)
 
 -- a desk holds one image
-one_held : (held : Option (List ℕ)) (v : Contents) (j : Image) → IsReadAs held v → HoldsImage held j → contents j ≡ v
+pub one_held : (held : Option (List ℕ)) (v : Contents) (j : Image) → IsReadAs held v → HoldsImage held j → contents j ≡ v
 one_held held v j (bytes, is, reads) (others, are, given) = reads (Ok j) (subst (λ b. AnswersImage b (Ok j)) (same_Some others bytes (sym are ∙ is)) given)
 
 -- its bytes are not refused by this fault
-no_fault_in : (held : Option (List ℕ)) (v : Contents) → IsReadAs held v → (e : ImageFault) → (e ≡ faults.NoMemory → ⊥) → (bytes : List ℕ) → held ≡ Some bytes → AnswersImage bytes (Err e) → ⊥
+pub no_fault_in : (held : Option (List ℕ)) (v : Contents) → IsReadAs held v → (e : ImageFault) → (e ≡ faults.NoMemory → ⊥) → (bytes : List ℕ) → held ≡ Some bytes → AnswersImage bytes (Err e) → ⊥
 no_fault_in held v (others, are, reads) e other bytes is refused = other (reads (Err e) (subst (λ b. AnswersImage b (Err e)) (same_Some bytes others (sym is ∙ are)) refused))
 
-not_bare : (held : Option (List ℕ)) (v : Contents) → IsReadAs held v → held ≡ None → ⊥
+pub not_bare : (held : Option (List ℕ)) (v : Contents) → IsReadAs held v → held ≡ None → ⊥
 not_bare held v (bytes, are, reads) none = absurd (cc (none, are))
 
 -- NO REFUSAL OF WHAT IS IN ITS GRAMMAR

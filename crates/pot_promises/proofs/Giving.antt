@@ -30,7 +30,7 @@ use Rattle.pot_replies.specs.Settings.{Setting}
 use Rattle.pot_replies.specs.Stores.{IsStored}
 use Rattle.pot_commands.proofs.Logs.{names_to}
 use Rattle.pot_session.specs.Serving.{setting_of}
-use Rattle.pot_promises.specs.Answers.{job_at}
+use Rattle.pot_promises.specs.Answers.{IsAnswered, job_at}
 use Rattle.pot_promises.specs.Chains.{IsSession, Begins, Later, Same, Begun, More}
 use Rattle.pot_promises.specs.Promises.{GivesBack, GivesBackLater}
 use Rattle.pot_promises.proofs.Keeping.{Has, still_has, published_has, found_digest}
@@ -78,7 +78,7 @@ module _ (s : Setting) where
       (subst (λ l. Contains l it) (sym stored.index) (contains_later (plain (Reserve job name)) it (it ∷ []) (contains_here it [])))).0
 
 -- two texts of which no two differ and have one digest
-same_text : (file bytes : List ℕ) → NoTwoAlike (file ∷ bytes ∷ []) → digest_of bytes ≡ digest_of file → bytes ≡ file
+pub same_text : (file bytes : List ℕ) → NoTwoAlike (file ∷ bytes ∷ []) → digest_of bytes ≡ digest_of file → bytes ≡ file
 same_text file bytes alike e =
     alike bytes file (contains_later file bytes (bytes ∷ []) (contains_here bytes [])) (contains_here file (bytes ∷ [])) e
 
@@ -133,7 +133,7 @@ gives_back seed first last ss rs session p i q j lt name file of pieces shards s
 -- LATER SESSIONS
 
 -- an image whose records have distinct names, one of which has this digest
-record Keeps (v : Contents) (name : List ℕ) (d : Digest) : Type 0 where
+pub record Keeps (v : Contents) (name : List ℕ) (d : Digest) : Type 0 where
   pub names : AreNames v.rack (names_of v)
   pub has : Has (names_of v) name d
 
@@ -166,8 +166,10 @@ later_keeps from left name d keeps (More {left = before} {first} sofar begins le
     (still_has first.rack (names_of first) leaves.records.ended leaves.story name d there.names leaves.records.replays there.has)
     leaves.rack leaves.records.is
 
-pub gives_back_later : GivesBackLater
-gives_back_later seed first last ss rs session p i name file of pieces shards stored left later seed2 first2 last2 ss2 rs2 begins session2 q j given bytes fetched alike =
+-- so a file that was stored is kept by the image with which a later session begins
+pub stored_keeps : (seed : List ℕ) (first last : Contents) (ss : List Step) (rs : List Reply) (session : IsSession seed first last ss rs) (p i : ℕ) (name file of : List ℕ) (pieces shards : ℕ)
+    → IsAnswered first.rack ss rs p i (commands.Store name file) (replies.Stored of pieces shards) → (left next : Contents) → Later last left → Begins left next → Keeps next name (digest_of file)
+stored_keeps seed first last ss rs session p i name file of pieces shards stored left next later begins =
     let it = led seed first last ss rs session in
     let a = first_names first session.fits in
     let then = replay_keeps first.rack (names_of first) it.sofar session.done.index_added a it.to in
@@ -184,7 +186,11 @@ gives_back_later seed first last ss rs session p i name file of pieces shards st
     (replay_keeps first.rack it.sofar session.records.ended session.later.index_added then it.on)
     (still_has first.rack it.sofar session.records.ended session.later.index_added name its.kept.digest then it.on has)
     session.rack session.records.is in
-    let there = begins_keeps left first2 name its.kept.digest begins (later_keeps last left name its.kept.digest kept later) in
+    subst (Keeps next name) its.is_record.digest (begins_keeps left next name its.kept.digest begins (later_keeps last left name its.kept.digest kept later))
+
+pub gives_back_later : GivesBackLater
+gives_back_later seed first last ss rs session p i name file of pieces shards stored left later seed2 first2 last2 ss2 rs2 begins session2 q j given bytes fetched alike =
+    let there = stored_keeps seed first last ss rs session p i name file of pieces shards stored left first2 later begins in
     let s2 = setting_of seed2 first2 in
     let it2 = led seed2 first2 last2 ss2 rs2 session2 in
     let got = row_at s2 ss2 session2.replied.ones rs2 q j (commands.Fetch name) (replies.File given bytes) session2.replied.answers refl fetched in
@@ -194,6 +200,5 @@ gives_back_later seed first last ss rs session p i name file of pieces shards st
     let log : List Logged = cut2.index_earlier ++ file_is.found.sofar in
     same_text file bytes alike
     (file_is.digest
-    ∙ (found_digest first2.rack found.now name its.kept.digest file_is.kept (replay_keeps first2.rack (names_of first2) found.now log there.names found.to)
-    (still_has first2.rack (names_of first2) found.now log name its.kept.digest there.names found.to there.has) found.is
-    ∙ its.is_record.digest))
+    ∙ found_digest first2.rack found.now name (digest_of file) file_is.kept (replay_keeps first2.rack (names_of first2) found.now log there.names found.to)
+    (still_has first2.rack (names_of first2) found.now log name (digest_of file) there.names found.to there.has) found.is)

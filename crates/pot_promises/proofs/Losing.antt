@@ -14,6 +14,7 @@ use Rattle.pot_machine.specs.declared.entry.Entry.{Entry}
 use Rattle.pot_machine.specs.declared.entry.Entry.TheVariants as entry
 use Rattle.pot_machine.specs.Logs.{is_of, job_of, own}
 use Rattle.pot_index.proofs.NamesKept.{replay_keeps, went_on}
+use Rattle.pot_index.specs.declared.record.Record.{Record}
 use Rattle.pot_index.specs.Fits.{FitsRack}
 use Rattle.pot_index.specs.Index.{AreNames, Replays}
 use Rattle.pot_script.specs.declared.command.Command.{Command}
@@ -25,7 +26,7 @@ use Rattle.pot_script.specs.declared.reply.Reply.TheVariants as replies
 use Rattle.pot_script.specs.Steps.{IsJobLine, IsWholeStep}
 use Rattle.pot_image.specs.Images.{Contents}
 use Rattle.pot_image.specs.Rules.{FitsTogether}
-use Rattle.pot_replies.specs.Fetches.{IsLost}
+use Rattle.pot_replies.specs.Fetches.{Found, IsLost}
 use Rattle.pot_replies.specs.Jobs.{EachIs, is_move_begin, is_move_of}
 use Rattle.pot_replies.specs.Sections.{Section, MovesThenRest, JobEntries, Follows, IsOfJobs, IsOnlyIn, mine, names_after, work_of}
 use Rattle.pot_replies.specs.Sessions.{AreSections, Answered, Answers, Rows, jobs_in}
@@ -35,10 +36,10 @@ use Rattle.pot_commands.specs.Steps.{step_of, steps_of}
 use Rattle.pot_commands.proofs.NoMoves.{brings, no_moves, not_among}
 use Rattle.pot_session.specs.Losses.{BeginWith, SwapsNone, is_swap}
 use Rattle.pot_session.specs.Serving.{Leaves, setting_of}
-use Rattle.pot_session.proofs.LossLemmas.{lost_where_few}
 use Rattle.pot_promises.specs.Answers.{StandsAt, count_replies, job_at}
 use Rattle.pot_promises.specs.Lost.{Fetches, LostIsFew}
 use Rattle.pot_promises.proofs.Giving.{first_names, transition, names_of}
+use Rattle.pot_promises.proofs.OwnGroups.{all_among, few_can_be_had}
 use Rattle.pot_promises.proofs.Walking.{HasRow, IsCut, cut_at, row_at}
 
 -- ENTRIES THAT SWAP NO ARCHIVE
@@ -156,7 +157,7 @@ module _ (s : Setting) where
       )
 
   -- so it is of the step of a place
-  swaps_at : (ss : List Step) (job : ℕ) (ones : List Section) (rs : List Reply) (w : Section) (k i : ℕ) (d : Step) (c : Command) (name : List ℕ) (one : Section) → 0 < job
+  pub swaps_at : (ss : List Step) (job : ℕ) (ones : List Section) (rs : List Reply) (w : Section) (k i : ℕ) (d : Step) (c : Command) (name : List ℕ) (one : Section) → 0 < job
       → AreSections job (steps_of ss) ones w → Answers (Row s) job (steps_of ss) ones rs → AllByRecursion (IsWholeStep s.rack) ss
       → slice_get ss k ≡ Some d → StandsAt d i c → Fetches name c → slice_get ones k ≡ Some one → SwapsNone one
   swaps_at [] job ones rs w k i d c name one some are answers whole there stands fetches at = absurd (cc there)
@@ -174,7 +175,7 @@ parted a b c d e f =
     ap (λ l. a ++ l) (append_assoc b ((c ++ d) ++ e) f ∙ ap (λ l. b ++ l) (append_assoc (c ++ d) e f ∙ append_assoc c d (e ++ f)))
     ∙ sym (append_assoc ((a ++ b) ++ c) d (e ++ f) ∙ (append_assoc (a ++ b) c (d ++ (e ++ f)) ∙ append_assoc a b (c ++ (d ++ (e ++ f)))))
 
-worked_swaps : (one : Section) (h : MovesThenRest one) → SwapsNone one → SwapsNone (work_of one h)
+pub worked_swaps : (one : Section) (h : MovesThenRest one) → SwapsNone one → SwapsNone (work_of one h)
 worked_swaps one h swaps g e has = swaps g e (subst (λ l. Contains l e) (sym (h.parts g)) (Contains-append_right (h.begun g) (h.worked g) e has))
 
 module _ (seed : List ℕ) (first last : Contents) (room : Transition RoomState) (missing : List ℕ) (story : Section) (fits : FitsTogether first) (leaves : Leaves room missing first last story)
@@ -182,7 +183,7 @@ module _ (seed : List ℕ) (first last : Contents) (room : Transition RoomState)
   abbrev s : Setting
   s = setting_of seed first
 
-  stands_in : (one : Section) (h : MovesThenRest one) → IsCut one done → BeginWith (work_of one h) last.group_logs
+  pub stands_in : (one : Section) (h : MovesThenRest one) → IsCut one done → BeginWith (work_of one h) last.group_logs
   stands_in one h cut g log is_log = (
     cut.later g ++ later.added g,
     leaves.logs g log is_log
@@ -192,14 +193,14 @@ module _ (seed : List ℕ) (first last : Contents) (room : Transition RoomState)
   )
 
   -- the record that was found has room in the rack
-  found_fits : (job : ℕ) (name : List ℕ) (piece number have need : ℕ) (one : Section) (h : MovesThenRest one) → IsCut one done → (lost : IsLost s job name piece number have need (work_of one h)) → FitsRack first.rack lost.kept
-  found_fits job name piece number have need one h cut lost =
+  pub found_fits : (job : ℕ) (name : List ℕ) (kept : Record) (one : Section) (h : MovesThenRest one) → IsCut one done → Found s job name kept (work_of one h) → FitsRack first.rack kept
+  found_fits job name kept one h cut was =
       let parts = went_on first.rack (names_of first) leaves.records.ended done.index_added later.index_added
       (subst (λ l. Replays first.rack (names_of first) l leaves.records.ended) follows.index_is_added leaves.records.replays) in
-      let found = transition s done one h job name lost.kept (names_of first) parts.0 cut lost.found
+      let found = transition s done one h job name kept (names_of first) parts.0 cut was
       (ap (names_after (names_of first)) (follows.index_begins ∙ leaves.index_opened)) parts.1 in
-      let names : AreNames first.rack found.now = replay_keeps first.rack (names_of first) found.now (cut.index_earlier ++ lost.found.sofar) (first_names first fits) found.to in
-      All-contains (FitsRack first.rack) found.now.published lost.kept names.fits found.is.0
+      let names : AreNames first.rack found.now = replay_keeps first.rack (names_of first) found.now (cut.index_earlier ++ was.sofar) (first_names first fits) found.to in
+      All-contains (FitsRack first.rack) found.now.published kept names.fits found.is.0
 
 one_reply : (rack : Rack) (name : List ℕ) (c : Command) → Fetches name c → count_replies rack c ≡ 1
 one_reply rack name c (inl is) = ap (count_replies rack) is
@@ -231,7 +232,8 @@ lost_is_few seed first last room missing story fits told leaves back none ss rs 
       number = it.0;
       numbered = it.1;
       lost = it.2;
-      few = lost_where_few (IsTrue room.tells) seed first last room.before.means room.after.means missing told fits leaves.groups back none (job_at ss k i) name piece it.0 have need w (omega arith) stands
+      few = few_can_be_had (IsTrue room.tells) seed first last room.before.means room.after.means missing told fits leaves.groups (λ g. Unit {0})
+          (λ g t log own at is_log n had. (let among = all_among first.tables last.group_logs g t log at is_log n had in (back n among, none n among))) (job_at ss k i) name piece it.0 have need w (omega arith) stands
           (worked_swaps row.one row.halves swaps) it.2
-          (found_fits seed first last room missing story fits leaves done later follows (job_at ss k i) name piece it.0 have need row.one row.halves cut it.2);
+          (found_fits seed first last room missing story fits leaves done later follows (job_at ss k i) name it.2.kept row.one row.halves cut it.2.found) (λ p h. tt);
     }

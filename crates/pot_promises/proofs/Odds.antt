@@ -146,7 +146,7 @@ comes_to kept block bytes file random store long joins enough right =
 -- WHAT WAS PUT STANDS IN THE LOG
 
 -- each block of a list of puts has its entry
-puts_has : (job : ℕ) (xs : List Placed) (es : List Entry) (x : Placed) → Puts job xs es → Contains xs x
+pub puts_has : (job : ℕ) (xs : List Placed) (es : List Entry) (x : Placed) → Puts job xs es → Contains xs x
     → (e : Entry) × IsKeptPut job x.stripe x.column x.digest e × Contains es e
 puts_has job [] es x puts (k, lt, at) = absurd (omega (arith, lt))
 puts_has job (y ∷ xs) es x (passed, e, rest, kept, is, more) (zero, lt, at) = (
@@ -158,7 +158,7 @@ puts_has job (y ∷ xs) es x (passed, e, rest, kept, is, more) (suc k, lt, at) =
     let r = puts_has job xs rest x more (k, omega (arith, lt), at) in
     (r.0, r.1, subst (λ l. Contains l r.0) (sym is) (Contains-append_right (skips job passed ++ e ∷ []) rest r.0 r.2))
 
-kept_fills : (job s c : ℕ) (d : Digest) (e : Entry) → IsKeptPut job s c d e → Fills s c d e
+pub kept_fills : (job s c : ℕ) (d : Digest) (e : Entry) → IsKeptPut job s c d e → Fills s c d e
 kept_fills job s c d e (inl (p, is)) = subst (λ x. Fills s c d x) (sym is) (refl, refl, refl)
 kept_fills job s c d e (inr (p, q, is)) = subst (λ x. Fills s c d x) (sym is) (refl, refl, refl)
 

@@ -67,7 +67,7 @@ refused_not sink s answer (inr (inl p)) d = subst IsDone p.0 d
 refused_not sink s answer (inr (inr p)) d = subst IsDone p.0 d
 
 -- nothing was added behind
-abbrev none_behind : Section → Section
+abbrev pub none_behind : Section → Section
 none_behind w = record {
   before = λ g. w.before g ++ w.added g;
   added = λ g. [];
@@ -75,7 +75,7 @@ none_behind w = record {
   index_added = [];
 }
 
-whole_follows : (w : Section) → Follows w (none_behind w) w
+pub whole_follows : (w : Section) → Follows w (none_behind w) w
 whole_follows w = record {
   begins = λ g. refl;
   is_added = λ g. sym (append-nil (w.added g));
@@ -86,7 +86,7 @@ whole_follows w = record {
 }
 
 -- the log of each group of a session that closed leads from its first table
-all_lead : (room : Transition RoomState) (missing : List ℕ) (first last : Contents) (w : Section) → Leaves room missing first last w → AllLead first.tables w
+pub all_lead : (room : Transition RoomState) (missing : List ℕ) (first last : Contents) (w : Section) → Leaves room missing first last w → AllLead first.tables w
 all_lead room missing first last w leaves g t at =
     let lt = slice_get_within first.tables g t at in
     let many = leaves.groups.count in
@@ -121,15 +121,15 @@ module _ (seed : List ℕ) (room : Transition RoomState) (missing : List ℕ) (f
 -- WHAT WAS WRITTEN
 
 -- first bytes of the texts of these replies
-abbrev WroteFirst : Transition (List ℕ) → List Reply → Type 0
+abbrev pub WroteFirst : Transition (List ℕ) → List Reply → Type 0
 WroteFirst sink rs = IsTrue sink.tells → (more : List ℕ) × (sink.before ++ texts_of rs ≡ sink.after ++ more)
 
 -- so it is where it is the texts of all of them
-all_written : (sink : Transition (List ℕ)) (rs : List Reply) → Wrote sink (texts_of rs) → WroteFirst sink rs
+pub all_written : (sink : Transition (List ℕ)) (rs : List Reply) → Wrote sink (texts_of rs) → WroteFirst sink rs
 all_written sink rs wrote told = ([], sym (wrote told) ∙ sym (append-nil sink.after))
 
 -- and where it is first bytes of the last
-cut_written : (sink : Transition (List ℕ)) (rs its : List Reply) (count : ℕ) → sink.after ≡ sink.before ++ (texts_of rs ++ take count (texts_of its))
+pub cut_written : (sink : Transition (List ℕ)) (rs its : List Reply) (count : ℕ) → sink.after ≡ sink.before ++ (texts_of rs ++ take count (texts_of its))
     → (more : List ℕ) × (sink.before ++ texts_of (rs ++ its) ≡ sink.after ++ more)
 cut_written sink rs its count is = (
   drop count (texts_of its),

@@ -13,7 +13,7 @@ use Rattle.pot_steps.specs.GroupStep.{Breaks, FindsGone, Spared, as_read}
 use Rattle.pot_steps.proofs.Steps.{filling_stays}
 use Rattle.pot_image.specs.Rules.{FitsTable}
 use Rattle.pot_shared.specs.Groups.{IsOpened}
-use Rattle.pot_session.specs.Serving.{RoseInRoom}
+use Rattle.pot_session.specs.Serving.{RoseInRoom, RoseOftenInRoom}
 use Rattle.pot_shared.proofs.GroupLemmas.{serves_there}
 use Rattle.pot_shared.proofs.Lists.{all_at_place}
 use Rattle.pot_promises.specs.Openings.{OpeningsAreTrue, OpensAsMeant}
@@ -88,7 +88,7 @@ module _ (data_columns parity : ℕ) (a b : Stripe) (same : SameSound (data_colu
 
 -- AN OPENING
 
-module _ (meant : ℕ → Meaning) (Rises : ℕ → Type 0) (t : Table) (log : List Entry) (o : IsOpened meant Rises t log)
+module _ (meant : ℕ → Meaning) (Rises : ℕ → Type 0) (Often : ℕ → ℕ → Type 0) (t : Table) (log : List Entry) (o : IsOpened meant Rises Often t log)
     (none : (s c : ℕ) → s < t.stripes → c < width t → Rises (serving_at t s c) → ⊥) where
   abbrev meant_at : ℕ → Stripe
   meant_at s = stripe_of t (λ n. (meant n).held) s
@@ -126,5 +126,5 @@ module _ (meant : ℕ → Meaning) (Rises : ℕ → Type 0) (t : Table) (log : L
 pub openings_are_true : OpeningsAreTrue
 openings_are_true first last room missing story fits told leaves group read is still =
     let rules : FitsTable first.rack read = all_at_place (FitsTable first.rack) first.tables group read fits.tables.fits is in
-    opens_as_meant room.before.means (RoseInRoom room.before.means room.after.means missing) read (story.before group) (leaves.found told group read is)
+    opens_as_meant room.before.means (RoseInRoom room.before.means room.after.means missing) (RoseOftenInRoom room.before.means room.after.means missing) read (story.before group) (leaves.found told group read is)
     (λ s c ls lc rises. (let h = still (serving_at read s c) (serves_there read rules.rules s c lc) in h.1 (rises h.0)))

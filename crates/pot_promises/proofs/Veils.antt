@@ -118,7 +118,7 @@ store_of first together pads file short bytes = record {
 -- BLOCKS BY THEIR NUMBERS
 
 -- the piece, the fragment and the point of a block, all from 0
-record IsNumbered (kept : Record) (b : ℕ) : Type 0 where
+pub record IsNumbered (kept : Record) (b : ℕ) : Type 0 where
   pub piece : ℕ
   pub fragment : ℕ
   pub point : ℕ
@@ -127,7 +127,7 @@ record IsNumbered (kept : Record) (b : ℕ) : Type 0 where
   pub in_points : point < kept.geometry.shards
   pub is : position kept.geometry piece fragment point ≡ b
 
-numbered : (rack : Rack) (kept : Record) → FitsRack rack kept → (b : ℕ) → b < length kept.places → IsNumbered kept b
+pub numbered : (rack : Rack) (kept : Record) → FitsRack rack kept → (b : ℕ) → b < length kept.places → IsNumbered kept b
 numbered rack kept fits b lt =
     let k = kept.geometry.fragments in
     let n = kept.geometry.shards in
@@ -225,3 +225,10 @@ stays_veiled seed first last ss rs session p i name file of pieces shards answer
           (subst (λ g. map (λ (x : Placed). x.digest) put.its.placed ≡ map digest_of (file_blocks g file random)) geometry put.its.of_digests)
           veiled more same,
     )
+
+-- its record fits the rack
+pub kept_fits : (seed : List ℕ) (first last : Contents) (ss : List Step) (rs : List Reply) (session : IsSession seed first last ss rs) (p i : ℕ)
+    (name file of : List ℕ) (pieces shards : ℕ) (answered : IsAnswered first.rack ss rs p i (commands.Store name file) (replies.Stored of pieces shards))
+    → FitsRack first.rack (stays_veiled seed first last ss rs session p i name file of pieces shards answered).0.kept
+unfolding stays_veiled stored_in
+kept_fits seed first last ss rs session p i name file of pieces shards answered = (kept_at seed first last ss rs session p i name file of pieces shards answered).fits

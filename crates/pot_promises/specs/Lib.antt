@@ -9,4 +9,7 @@ pub mod Openings
 pub mod Promises
 pub mod Remaining
 pub mod Runs
+pub mod Stretches
 pub mod Veils
+pub mod Words
+pub mod Fetched

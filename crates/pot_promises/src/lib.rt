@@ -34,6 +34,15 @@
 //!    belongs to (`frame_laws`, `run`). Where they held a block they hold one still, unless a write
 //!    there failed or their count of losses rose. So by an older image, put back, the archives of
 //!    its data slots have their blocks, whatever sessions did since (`remain`, `older`).
+//! 10. `init`, `recover`, `drill`, `generate` and `audit` answer by what their objects mean, unless
+//!    an object outside failed or memory ran out: of each cause it is said which status comes, and
+//!    what is written (`word_laws`).
+//! 11. Each relay of a session that closed is blinded by a stretch of its job's key stream that no
+//!    other relay has, of this group or of another (`stretch_laws`); and two jobs have two streams.
+//! 12. A fetch of a file that was stored, in its session or in an earlier one and renewed or not,
+//!    gives the file, or says `logfull` of a full log, `lost` by the rule on points, `odd` of the
+//!    file's own digest, or `fault` by an archive that failed. It never says `absent`
+//!    (`fetch_laws`).
 //!
 //! The premises on digests name texts: the file and the bytes that were fetched, or the blocks of
 //! the file and those that were read. They say of these that they are equal where they have one
@@ -42,6 +51,7 @@
 
 ghost use Rattle.pot_promises.specs.Complete.{NextIsAnswered, RunsAreAnswered};
 ghost use Rattle.pot_promises.specs.Faults.{FaultsAreCounted};
+ghost use Rattle.pot_promises.specs.Fetched.{FetchAnswers};
 ghost use Rattle.pot_promises.specs.Frames.{FrameOfRun};
 ghost use Rattle.pot_promises.specs.Lost.{LostIsFew};
 ghost use Rattle.pot_promises.specs.Odds.{NeverOdd, OddReads};
@@ -50,7 +60,9 @@ ghost use Rattle.pot_promises.specs.Promises.{GivesBack, GivesBackLater};
 ghost use Rattle.pot_promises.specs.Remaining.{BlocksRemain, OlderDeskFinds, ServedRemain};
 ghost use Rattle.pot_promises.specs.Runs.{DesksStayGood, NeverRefused, RunsAreSessions};
 ghost use Rattle.pot_promises.specs.Runs.{RunsGoLater, RunsGoOn, RunsMayClose};
+ghost use Rattle.pot_promises.specs.Stretches.{BlindsOfRun, StreamsApart};
 ghost use Rattle.pot_promises.specs.Veils.{StaysVeiled};
+ghost use Rattle.pot_promises.specs.Words.{WordsAreAnswered};
 
 /// What a run of the program is, and with what the next one begins. It does nothing.
 pub fn run_laws()
@@ -68,6 +80,11 @@ pub fn run_laws()
 pub fn file_laws()
     ensures gives_back { GivesBack }
     ensures gives_back_later { GivesBackLater }
+{}
+
+/// What a fetch answers of a file that was stored, and what it never does. It does nothing.
+pub fn fetch_laws()
+    ensures { FetchAnswers }
 {}
 
 /// Where a reply `fault` comes from. It does nothing.
@@ -103,4 +120,15 @@ pub fn veil_laws()
 pub fn odd_laws()
     ensures odd_reads { OddReads }
     ensures never_odd { NeverOdd }
+{}
+
+/// What the words that hold no session answer, each by its cause. It does nothing.
+pub fn word_laws()
+    ensures { WordsAreAnswered }
+{}
+
+/// Which bytes blind the relays of a session. It does nothing.
+pub fn stretch_laws()
+    ensures run { BlindsOfRun }
+    ensures streams { StreamsApart }
 {}

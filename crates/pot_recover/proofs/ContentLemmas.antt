@@ -1,6 +1,5 @@
 -- The content that the shares of a chain mean.
-use Rattle.std.proofs.Common.{◌≡◌, inl, inr, ℕ, zero, suc, ◌+◌, ◌<◌, ◌≤◌, List, [], ◌∷◌, map, length, take, drop, get_or, refl, sym, ap, ◌∙◌, subst, arith, lit<}
-use Rattle.std.specs.List.{range_with_len}
+use Rattle.std.proofs.Common.{◌≡◌, inl, inr, ℕ, zero, suc, ◌+◌, ◌<◌, List, [], ◌∷◌, map, length, take, drop, get_or, refl, sym, ap, ◌∙◌, subst, arith, lit<}
 use Rattle.std.proofs.lemmas.List.{length-map, length-take-le, length-drop, get_or-take, get_or-drop, ext_get_or}
 use Rattle.pot_bytes.specs.Lists.{AreBytes}
 use Rattle.pot_joins.specs.Joins.{IsJoinAt, AreSamples}
@@ -10,27 +9,26 @@ use Rattle.pot_object.specs.declared.content.FragmentHead.{FragmentHead}
 use Rattle.pot_object.proofs.ContentLemmas.{fragment_head_at-content, zeros-content}
 use Rattle.pot_recover.specs.Contents.{IsTail}
 use Rattle.pot_recover.specs.HeldShards.{point_of, bytes_held, HaveBytes, IsFixedBy}
+use Rattle.pot_recover.specs.Points.{ArePoints}
 use Rattle.pot_recover.specs.declared.held.Held.{Held}
-use Rattle.pot_recover.proofs.JoinLemmas.{points_distinct}
-use Rattle.pot_recover.proofs.RingLemmas.{range-bytes}
 
 pub held_bytes : (k : ℕ) (chain : List Held) → HaveBytes chain → AreBytes (bytes_held k chain)
 held_bytes k [] h j = lit< tt
 held_bytes k (x ∷ chain) h zero = h x (inl refl) k
 held_bytes k (x ∷ chain) h (suc j) = held_bytes k chain (λ y i. h y (inr i)) j
 
-module _ (chain : List Held) (points : map point_of chain ≡ range_with_len 1 (length chain)) (few : length chain ≤ 16) (bytes : HaveBytes chain) where
-  samples : (k : ℕ) → AreSamples (map point_of chain) (bytes_held k chain)
-  samples k = record {
-    points_bytes = subst AreBytes (sym points) (range-bytes 1 (length chain) (omega (arith, few)));
-    values_bytes = held_bytes k chain bytes;
-    distinct = points_distinct (map point_of chain) (length chain) points;
-    paired = length-map chain (λ (h : Held). get_or h.share.now k 0) ∙ sym (length-map chain point_of);
-  }
+pub samples_of : (chain : List Held) → ArePoints (map point_of chain) → HaveBytes chain → (k : ℕ) → AreSamples (map point_of chain) (bytes_held k chain)
+samples_of chain points bytes k = record {
+  points_bytes = points.bytes;
+  values_bytes = held_bytes k chain bytes;
+  distinct = points.distinct;
+  paired = length-map chain (λ (h : Held). get_or h.share.now k 0) ∙ sym (length-map chain point_of);
+}
 
+module _ (chain : List Held) (points : ArePoints (map point_of chain)) (bytes : HaveBytes chain) where
   -- what is fixed at a place is one
   fixed_place : (k y a b : ℕ) → IsJoinAt (map point_of chain) (bytes_held k chain) y a → IsJoinAt (map point_of chain) (bytes_held k chain) y b → a ≡ b
-  fixed_place k y a b ja jb = let r = through (map point_of chain) (bytes_held k chain) (samples k) in ja r.0 r.1 r.2 r.3 ∙ sym (jb r.0 r.1 r.2 r.3)
+  fixed_place k y a b ja jb = let r = through (map point_of chain) (bytes_held k chain) (samples_of chain points bytes k) in ja r.0 r.1 r.2 r.3 ∙ sym (jb r.0 r.1 r.2 r.3)
 
   pub one_content : (joined c : List ℕ) → length joined ≡ 992 → length c ≡ 992 → IsFixedBy chain 0 joined → IsFixedBy chain 0 c → joined ≡ c
   one_content joined c lj lc fj fc = ext_get_or 0 joined c (lj ∙ sym lc) (λ k less.

@@ -37,15 +37,15 @@ module _ (shards : List Shard) (m n bits : ℕ) where
   abbrev Part : ℕ → Shard → Type 0
   Part x s = IsIn shards s × IsAt m n bits x s
 
-  at : (x : ℕ) (part : List Shard) (p : ℕ) → IsListed (Part x) part → p < length part → Part x (get_or part p no_shard)
+  pub at : (x : ℕ) (part : List Shard) (p : ℕ) → IsListed (Part x) part → p < length part → Part x (get_or part p no_shard)
   at x part p is inside = (is.each (get_or part p no_shard)).0 (in_get_or p part no_shard inside)
 
   -- what the pointer of a level means stands in the next part, under its name
-  meant_inside : (part next : List Shard) (a b : Level) (p q : ℕ) → IsLevelOf next b → IsMeant a.pointers.items b.index bits p q → q < length next
+  pub meant_inside : (part next : List Shard) (a b : Level) (p q : ℕ) → IsLevelOf next b → IsMeant a.pointers.items b.index bits p q → q < length next
   meant_inside part next a b p q is meant =
       let within = slice_get_within b.index q meant.0 meant.1 in omega (arith, within, ap length is.names, length-map next (λ (s : Shard). s.name))
 
-  meant_name : (part next : List Shard) (a b : Level) (p q : ℕ) → IsLevelOf part a → IsLevelOf next b → p < length part → IsMeant a.pointers.items b.index bits p q
+  pub meant_name : (part next : List Shard) (a b : Level) (p q : ℕ) → IsLevelOf part a → IsLevelOf next b → p < length part → IsMeant a.pointers.items b.index bits p q
       → blur (get_or next q no_shard).name bits ≡ (get_or part p no_shard).pointer
   meant_name part next a b p q is_a is_b inside meant =
       let inside_next = meant_inside part next a b p q is_b meant in
@@ -89,7 +89,7 @@ module _ (shards : List Shard) (m n bits : ℕ) where
       )
 
   -- a shard of a part stands there at a position
-  placed : (x : ℕ) (part : List Shard) (s : Shard) → IsListed (Part x) part → Part x s → (p : ℕ) × (p < length part) × (get_or part p no_shard ≡ s)
+  pub placed : (x : ℕ) (part : List Shard) (s : Shard) → IsListed (Part x) part → Part x s → (p : ℕ) × (p < length part) × (get_or part p no_shard ≡ s)
   placed x part s is h = let r = contains_from_in part s ((is.each s).1 h) in (r.0, r.1, get_or_default part r.0 no_shard s r.1 ∙ r.2)
 
   -- a linked shard stands at the next point

@@ -5,11 +5,13 @@ use Rattle.pot_split.specs.Secrecy.{rows_of}
 use Rattle.pot_split.specs.Threshold.{column, IsJoin}
 use Rattle.std.proofs.lemmas.List.{length-take-le, length-drop, get_or-take, get_or-drop}
 use Rattle.std.proofs.lemmas.List.FromFn.{length-range_with_len, get_or-range_with_len, take-map-range_with_len}
+use Rattle.pot_bytes.specs.Lists.{AreBytes}
+use Rattle.pot_recover.specs.Points.{ArePoints}
 use Rattle.pot_recover.specs.HeldShards.{share_of, piece_of, bytes_held, AreWhole}
 use Rattle.pot_joins.specs.Joins.{IsJoinAt}
 use Rattle.pot_gf.specs.Polynomials.{PassesThrough}
 use Rattle.pot_split.proofs.ThresholdLaws.{rows_of-append}
-use Rattle.pot_recover.proofs.RingLemmas.{range-distinct}
+use Rattle.pot_recover.proofs.RingLemmas.{range-bytes, range-distinct}
 use Rattle.pot_recover.specs.declared.held.Held.{Held}
 
 length-piece : (start size : ℕ) (h : Held) → length (share_of h) ≡ 992 → start + size ≤ 992 → length (piece_of start size h) ≡ size
@@ -42,6 +44,14 @@ pub points_not_zero : (points : List ℕ) (n : ℕ) → points ≡ range_with_le
 points_not_zero points n e k d within =
     let inside : k < n = omega (arith, within, ap length e, length-range_with_len 1 n) in
     omega (arith, ap (λ l. get_or l k d) e, get_or-range_with_len 1 n k d inside)
+
+-- the points from 1 on may be joined at
+pub first_points_are : (points : List ℕ) (n : ℕ) → points ≡ range_with_len 1 n → n ≤ 16 → ArePoints points
+first_points_are points n e few = record {
+  bytes = subst AreBytes (sym e) (range-bytes 1 n (omega (arith, few)));
+  distinct = points_distinct points n e;
+  not_zero = points_not_zero points n e;
+}
 
 -- the front of the points
 pub points_front : (points : List ℕ) (n : ℕ) → points ≡ range_with_len 1 16 → n ≤ 16 → take n points ≡ range_with_len 1 n

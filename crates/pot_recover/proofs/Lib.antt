@@ -11,6 +11,10 @@ pub mod LinkLemmas
 pub mod MemberLemmas
 pub mod NextLemmas
 pub mod ObjectLemmas
+pub mod OpenClosing
+pub mod OpenLaws
+pub mod OpenLemmas
+pub mod OpenTop
 pub mod OrderLemmas
 pub mod PartLemmas
 pub mod ReachedLemmas

@@ -46,7 +46,7 @@ linked_append : {X : Type 0} (Link : X → X → Type 0) (x : X) (ys zs : List X
 linked_append Link x [] zs a b = b
 linked_append Link x (y ∷ ys) zs a b = (a.0, linked_append Link y ys zs a.1 b)
 
-linked_parts : {X : Type 0} (Link : X → X → Type 0) (x : X) (ys zs : List X) → AreLinked Link x (ys ++ zs) → AreLinked Link x ys × AreLinked Link (last_of x ys) zs
+pub linked_parts : {X : Type 0} (Link : X → X → Type 0) (x : X) (ys zs : List X) → AreLinked Link x (ys ++ zs) → AreLinked Link x ys × AreLinked Link (last_of x ys) zs
 linked_parts Link x [] zs h = (tt, h)
 linked_parts Link x (y ∷ ys) zs h = let r = linked_parts Link y ys zs h.1 in ((h.0, r.0), r.1)
 
@@ -84,15 +84,15 @@ values-bytes k (t ∷ c) h zero = h.0 k
 values-bytes k (t ∷ c) h (suc j) = values-bytes k c h.1 j
 
 -- a polynomial that goes through has each one's byte at its point
-abbrev HasByte : ℕ → List ℕ → Shard → Type 0
+abbrev pub HasByte : ℕ → List ℕ → Shard → Type 0
 HasByte k p t = value p t.x ≡ get_or t.share k 0
 
-passes_all : (k : ℕ) (p : List ℕ) (c : List Shard) → AreAll (HasByte k p) c → PassesThrough (points_of c) (bytes_at k c) p
+pub passes_all : (k : ℕ) (p : List ℕ) (c : List Shard) → AreAll (HasByte k p) c → PassesThrough (points_of c) (bytes_at k c) p
 passes_all k p [] h i lt = absurd (omega arith)
 passes_all k p (t ∷ c) h zero lt = h.0
 passes_all k p (t ∷ c) h (suc i) lt = passes_all k p c h.1 i (omega arith)
 
-all_pass : (k : ℕ) (p : List ℕ) (c : List Shard) → PassesThrough (points_of c) (bytes_at k c) p → AreAll (HasByte k p) c
+pub all_pass : (k : ℕ) (p : List ℕ) (c : List Shard) → PassesThrough (points_of c) (bytes_at k c) p → AreAll (HasByte k p) c
 all_pass k p [] h = tt
 all_pass k p (t ∷ c) h = (h 0 (omega arith), all_pass k p c (λ i lt. h (suc i) (omega arith)))
 

@@ -120,7 +120,7 @@ sum_is contents n long =
     let count : length (flat_map f (range_with_len 0 n)) / 928 ≡ n = ap (λ (z : ℕ). z / 928) rows.1 ∙ mul-div_cancel n (omega arith) in
     ap (sum_of 928) (map-map (drop 64) contents (range_with_len 0 n) ∙ sym rows.0 ∙ ap (λ (z : ℕ). rows_of z 928 (flat_map f (range_with_len 0 n))) (sym count))
 
-objects_law : (closed : List ℕ → Type 0) (g : Geometry) (file random : List ℕ) (i : ℕ) → IsStore g file random → i < pieces_of (length file)
+pub objects_law : (closed : List ℕ → Type 0) (g : Geometry) (file random : List ℕ) (i : ℕ) → IsStore g file random → i < pieces_of (length file)
     → ((j : ℕ) → j < g.fragments → closed (content_in g file random i j)) → IsRecovered closed (object_in file random i)
 unfolding head
 objects_law closed g file random i is exists given = (

@@ -95,7 +95,7 @@ module _ (blocks : List (List ℕ)) (bits : ℕ) (shards : List Shard) (same : (
 pub closed_contents : (blocks : List (List ℕ)) (bits : ℕ) (contents : List (List ℕ)) → ((c : List ℕ) → IsIn contents c ↔ IsClosedIn blocks bits c) → AreContents contents
 closed_contents blocks bits contents is c h = ((is c).0 h).3.grammar
 
-choice_weaker : (P Q : List ℕ → Type 0) → ((c : List ℕ) → P c → Q c) → (choice : List (List ℕ)) → IsChoice P choice → IsChoice Q choice
+pub choice_weaker : (P Q : List ℕ → Type 0) → ((c : List ℕ) → P c → Q c) → (choice : List (List ℕ)) → IsChoice P choice → IsChoice Q choice
 choice_weaker P Q f choice is =
     record { id = is.id; some = is.some; each = λ i less. (f (get_or choice i []) (is.each i less).0, (is.each i less).1) }
 

@@ -7,6 +7,10 @@ pub mod Groups
 pub mod Held
 pub mod HeldShards
 pub mod LongScopes
+pub mod Open
+pub mod OpenScopes
+pub mod OpenStored
+pub mod Points
 pub mod Reached
 pub mod Recovered
 pub mod Rings

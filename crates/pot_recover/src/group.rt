@@ -79,7 +79,7 @@ fn parts_in<'a, 'b>(
 }
 
 /// A level for each part.
-fn levels_of(alloc: Global, parts: &[&[Held]]) -> Result<Vec<Level>, NoMemory>
+pub(crate) fn levels_of(alloc: Global, parts: &[&[Held]]) -> Result<Vec<Level>, NoMemory>
     requires short { (part : Bor (List Held)) → IsIn parts.now part → length part.now < 2 ^ 32 }
     ensures { IfOk result
         (λ levels. (bits : ℕ) → AreLevelsOf (parts_of bits parts.now) levels.items) }

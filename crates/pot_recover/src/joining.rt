@@ -5,6 +5,7 @@ ghost use Rattle.pot_joins.specs.Joins.{IsJoinAt};
 ghost use Rattle.pot_recover.specs.HeldShards.{share_of, piece_of, point_of, bytes_held, AreWhole};
 ghost use Rattle.pot_recover.specs.HeldShards.{HaveBytes, IsFixedBy};
 ghost use Rattle.pot_recover.specs.Contents.{IsNumbering, IsTail};
+ghost use Rattle.pot_recover.specs.Points.{ArePoints};
 ghost use Rattle.pot_recover.specs.Rings.{IsAnyContent};
 
 use crate::held::Held;
@@ -32,7 +33,7 @@ pub(crate) fn content_of(alloc: Global, chain: &[Held]) -> Result<Option<[u8; 99
     requires few { length chain.now ≤ 16 }
     requires whole { AreWhole chain.now }
     requires bytes { HaveBytes chain.now }
-    requires points { map point_of chain.now ≡ range_with_len 1 (length chain.now) }
+    requires points { ArePoints (map point_of chain.now) }
     ensures { IfOk result
         (λ content. MatchOption content ((c : List ℕ) → IsFixedBy chain.now 0 c → ¬ IsAnyContent c)
         (λ c. IsFixedBy chain.now 0 c × IsAnyContent c)) }
@@ -51,7 +52,7 @@ fn whole_content(alloc: Global, chain: &[Held]) -> Result<Option<[u8; 992]>, NoM
     requires few { length chain.now ≤ 16 }
     requires whole { AreWhole chain.now }
     requires bytes { HaveBytes chain.now }
-    requires points { map point_of chain.now ≡ range_with_len 1 (length chain.now) }
+    requires points { ArePoints (map point_of chain.now) }
     ensures { IfOk result
         (λ content. MatchOption content ((c : List ℕ) → IsFixedBy chain.now 0 c → ¬ IsAnyContent c)
         (λ c. IsFixedBy chain.now 0 c × IsAnyContent c)) }
@@ -69,16 +70,25 @@ fn join_places(alloc: Global, chain: &[Held], start: usize, out: &mut [u8]) -> R
     requires some { 0 < length chain.now }
     requires few { length chain.now ≤ 16 }
     requires whole { AreWhole chain.now }
-    requires points { map point_of chain.now ≡ range_with_len 1 (length chain.now) }
+    requires points { ArePoints (map point_of chain.now) }
     requires places { start + length out.old ≤ 992 }
     ensures { OnOk result
         ((k : ℕ) → k < length out.new
         → IsJoinAt (map point_of chain.now) (bytes_held (start + k) chain.now) 0
         (slice_index out.new k)) }
 {
+    let points = points_of(alloc, chain)?;
     let rows = rows_of(alloc, chain, start, start + out.len())?;
-    share_join(first_points(chain.len()), &rows, out);
+    share_join(&points, &rows, out);
     Ok(())
+}
+
+/// The points of a chain.
+fn points_of(alloc: Global, chain: &[Held]) -> Result<Vec<u8>, NoMemory>
+    ensures { IfOk result (λ points. points.items ≡ map point_of chain.now) }
+{
+    let points = chain.iter().map(|held| held.x).collect(alloc)?;
+    Ok(points)
 }
 
 /// The bytes from `start` to `end` of the shares of a chain, row by row.

@@ -1,4 +1,5 @@
 ghost use Rattle.pot_recover.specs.Altered.{AlteredLaws};
+ghost use Rattle.pot_recover.specs.OpenStored.{OpenLaws};
 ghost use Rattle.pot_recover.specs.Sets.{PointerLaws, RingLaws};
 ghost use Rattle.pot_recover.specs.StoredFragments.{StoredLaws};
 ghost use Rattle.pot_recover.specs.StoredRings.{LinkLaws};
@@ -16,6 +17,12 @@ pub fn pointer_laws()
 /// A ring as it is stored is a ring of recovery, and the other way round.
 pub fn link_laws()
     ensures { LinkLaws }
+{}
+
+/// What a ring gives, open chains give too. The object of a piece as it is stored is given by m
+/// shards of each fragment that follow one another.
+pub fn open_laws()
+    ensures { OpenLaws }
 {}
 
 /// A ring of which no more shares were altered than may be wrong closes robustly with what it closed with, and with

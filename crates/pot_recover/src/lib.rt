@@ -17,6 +17,9 @@
 //! 7. A fragment as it is stored closes with its content, so the objects of a file come back from its blocks, and robustly
 //!    where no more than half of the shares beyond m were altered: `stored_laws`, `altered_laws` (`specs/StoredFragments`,
 //!    `Altered`).
+//! 8. Where shards are gone, m that follow one another have the content: `recover_open` gives what
+//!    the definition calls openly recovered, and `open_laws` says that all that rings give is among
+//!    it (`specs/Open`, `OpenStored`).
 #![tactic(auto)]
 
 mod choices;
@@ -27,6 +30,7 @@ mod group;
 mod held;
 mod joining;
 mod laws;
+mod open_chains;
 mod parts;
 mod rings;
 mod robust;
@@ -36,6 +40,7 @@ mod sets;
 #[cfg(test)]
 mod tests;
 mod top;
+mod window;
 
-pub use laws::{link_laws, pointer_laws, ring_laws};
-pub use top::{RecoverFault, Recovered, recover, recover_robust};
+pub use laws::{link_laws, open_laws, pointer_laws, ring_laws};
+pub use top::{RecoverFault, Recovered, recover, recover_open, recover_robust};

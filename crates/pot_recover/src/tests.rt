@@ -247,3 +247,42 @@ fn of_four_shares_one_may_be_wrong_at_a_place(rt: HostRuntime) {
         assert!(rt; are(found, &object[..robust]), "{} {}", a.1, b.1);
     }
 }
+
+#[test]
+fn two_shards_that_follow_one_another_are_enough(rt: HostRuntime) {
+    let object = [object_of(b"hello", 1)];
+    let stored = stored(&rt, b"hello", 1, 4);
+    assert!(rt; are(recover_open(rt.alloc(), &stored, 16), &object));
+    assert!(rt; are(recover_open(rt.alloc(), &stored, 15), &[]));
+    // What is left of the first fragment, by places among its four shards, and how many objects
+    // come back.
+    for (a, b, back) in [
+        (0, 1, 1),
+        (1, 2, 1),
+        (2, 3, 1),
+        (3, 0, 1),
+        (0, 2, 0),
+        (1, 3, 0),
+        (2, 2, 0),
+    ] {
+        let mut blocks = Vec::from_slice(rt.alloc(), &stored[4..]).expect(&rt, "memory");
+        assert!(rt; a < 4 && b < 4 && back < 2);
+        blocks.push(stored[a]).expect(&rt, "memory");
+        blocks.push(stored[b]).expect(&rt, "memory");
+        assert!(rt; are(recover(rt.alloc(), &blocks, 16), &[]), "{a} {b}");
+        let found = recover_open(rt.alloc(), &blocks, 16);
+        assert!(rt; are(found, &object[..back]), "{a} {b}");
+    }
+}
+
+#[test]
+fn a_wrong_share_takes_its_own_chains_alone(rt: HostRuntime) {
+    let object = [object_of(b"hello", 1)];
+    let mut blocks = stored(&rt, b"hello", 1, 4);
+    assert!(rt; blocks.len() == 8);
+    blocks[1] = changed(&blocks[1], 500, 1);
+    assert!(rt; are(recover(rt.alloc(), &blocks, 16), &[]));
+    assert!(rt; are(recover_open(rt.alloc(), &blocks, 16), &object));
+    blocks[3] = changed(&blocks[3], 500, 1);
+    assert!(rt; are(recover_open(rt.alloc(), &blocks, 16), &[]));
+}

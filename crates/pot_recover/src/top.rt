@@ -4,6 +4,7 @@ ghost use Rattle.std.specs.List.{position, slice_index_or};
 ghost use Rattle.pot_chains.specs.Listed.{IsIn};
 ghost use Rattle.pot_recover.specs.Choices.{AreContents};
 ghost use Rattle.pot_recover.specs.Fronts.{has_front};
+ghost use Rattle.pot_recover.specs.Open.{AreOpenlyRecovered, IsOpenlyTooWide, IsOpenlyWithin};
 ghost use Rattle.pot_recover.specs.Recovered.{AreRecovered, IsBefore, IsChoice, IsRecovered};
 ghost use Rattle.pot_recover.specs.Robust.{AreRobustlyRecovered, IsRobustlyTooWide};
 ghost use Rattle.pot_recover.specs.Robust.{IsRobustlyWithin};
@@ -13,6 +14,7 @@ use crate::choices::{count_choices, objects_of};
 use crate::distinct::sort_distinct;
 use crate::fronts::first_front;
 use crate::held::held_in;
+use crate::open_chains::open_contents;
 use crate::rings::{WIDEST, closed_contents};
 use crate::robust_rings::robust_contents;
 use pot_bytes::Block;
@@ -129,6 +131,36 @@ pub fn recover_robust(alloc: Global, blocks: &[Block], bits: u8) -> Result<Recov
     };
     let mut chains = 0;
     match robust_contents(alloc, &held, bits, &mut chains) {
+        Ok(contents) => from_contents(alloc, contents, chains),
+        Err(SearchFault::Wide) => Err(RecoverFault::Wide {
+            chains: 4_000_001,
+            choices: 0,
+        }),
+        Err(SearchFault::NoMemory) => Err(RecoverFault::NoMemory),
+    }
+}
+
+/// The same by open chains: m shards that follow one another have the content of their fragment, so
+/// the n - m others of each may be gone.
+///
+/// The work is that of the chains of 1 to m from each point on, with one join for each chain of m,
+/// and of the choices.
+pub fn recover_open(alloc: Global, blocks: &[Block], bits: u8) -> Result<Recovered, RecoverFault>
+    requires bits { bits ≤ 63 }
+    requires few { length blocks.now < 2 ^ 32 }
+
+    // Exactly what the definition calls openly recovered, in byte order.
+    ensures objects { IfOk result (λ objects. AreOpenlyRecovered blocks.now bits objects) }
+
+    // Both counts are no more than the limit.
+    ensures within { OnOk result (IsOpenlyWithin blocks.now bits) }
+    ensures wide { IfErr result (λ fault. IsOpenlyTooWide blocks.now bits fault) }
+{
+    let Ok(held) = held_in(alloc, blocks, bits) else {
+        return Err(RecoverFault::NoMemory);
+    };
+    let mut chains = 0;
+    match open_contents(alloc, &held, bits, &mut chains) {
         Ok(contents) => from_contents(alloc, contents, chains),
         Err(SearchFault::Wide) => Err(RecoverFault::Wide {
             chains: 4_000_001,

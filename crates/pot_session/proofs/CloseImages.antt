@@ -1,5 +1,5 @@
 -- The image of a close.
-use Rattle.std.proofs.Common.{◌≡◌, ◌<◌, ◌^◌, ◌+◌, ◌++◌, inl, inr, ℕ, List, [], ◌∷◌, length, map, refl, sym, ap, subst, ◌∙◌, arith}
+use Rattle.std.proofs.Common.{◌≡◌, ◌⊎◌, ◌<◌, ◌≤◌, ◌^◌, ◌+◌, ◌-◌, ◌++◌, inl, inr, ℕ, List, [], ◌∷◌, length, map, refl, sym, ap, subst, ◌∙◌, arith}
 use Rattle.std.proofs.lemmas.List.Elements.{All-cons, All-head, All-nil, All-tail}
 use Rattle.std.specs.Prelude.{All, Option, Some, Result, Ok, Err, IfErr, IsErr, IsErrOf, IsTrue, flat_map}
 use Rattle.std.proofs.lemmas.Bool.{cases_lt}
@@ -12,6 +12,7 @@ use Rattle.pot_outside.specs.Counts.{Caused, Rose}
 use Rattle.pot_outside.specs.Rooms.{RoomState}
 use Rattle.pot_outside.specs.declared.archive.Shelf.{Shelf}
 use Rattle.pot_outside.specs.declared.faults.Failed.{Failed}
+use Rattle.pot_machine.specs.declared.entry.Entry.{Entry}
 use Rattle.pot_machine.specs.Table.{Table}
 use Rattle.pot_index.specs.Records.{record_bytes}
 use Rattle.pot_shelves.specs.Shelves.{Shelves}
@@ -27,15 +28,16 @@ use Rattle.pot_replies.specs.Sessions.{ByNobody}
 use Rattle.pot_shared.specs.Members.{entries_of}
 use Rattle.pot_shared.specs.Ready.{GroupPass}
 use Rattle.pot_shared.specs.Catalogs.{IndexPass}
-use Rattle.pot_shared.specs.Works.{Known, section_of}
-use Rattle.pot_shared.proofs.LeavingWords.{opened_as, other_groups}
+use Rattle.pot_shared.specs.Blinded.{HaveBlinds}
+use Rattle.pot_shared.specs.Works.{Known, blinds_by, section_of}
+use Rattle.pot_shared.proofs.LeavingWords.{opened_as}
 use Rattle.pot_session.specs.Giving.{AnswersFor, GivesBack}
-use Rattle.pot_shared.specs.Groups.{AreFirstPasses, MarksRose, records_read}
+use Rattle.pot_shared.specs.Groups.{AreFirstPasses, MarksRose, MarksRoseOften, records_read}
 use Rattle.pot_shared.specs.Hands.{times}
 use Rattle.pot_shared.specs.Coming.{marks_of}
-use Rattle.pot_shared.specs.Leaving.{still, AreOpened, RoseInHand, Shows, IsInHand, LeaveGroups, LeavesRecords, LeavesLogs}
+use Rattle.pot_shared.specs.Leaving.{still, AreOpened, RoseInHand, RoseOftenInHand, Shows, IsInHand, LeaveGroups, LeavesRecords, LeavesLogs}
 use Rattle.pot_session.specs.Opened.{IsBegun}
-use Rattle.pot_session.specs.Serving.{RoseInRoom, IsInRoom, Leaves, IsCloseStop, Closes, close_answer, first_failure}
+use Rattle.pot_session.specs.Serving.{RoseInRoom, RoseOftenInRoom, IsInRoom, Leaves, IsCloseStop, Closes, close_answer, first_failure}
 
 -- RELAYS ARE NOT WRITTEN
 
@@ -117,6 +119,18 @@ rose_in_room archives hand meant old new given b t n (x, has, e, rose) back =
     moved is (inl r) = inl (subst (λ y. Rose (meant n).faults y) is.faulted r)
     moved is (inr r) = inr (subst (λ y. Rose (meant n).losses y) is.lost r)
 
+-- and as often as it did
+often_in_room : {A : Type 0} (archives : Account A Meaning) (hand : List (Shelf A)) (meant : ℕ → Meaning) (old new : RoomState) (given : Result (Unit {0}) Failed)
+    (b : GivesBack archives hand old new given) → IsTrue archives.tells → (n k : ℕ) → RoseOftenInHand archives.meaning hand meant n k → RoseOftenInRoom meant new.means b.missing n k
+often_in_room archives hand meant old new given b t n k (x, has, e, rose) back =
+    let is : IsMeant (new.means x.number) (archives.meaning x.archive) = b.back t x has (subst (λ j. times j b.missing ≡ 0) (sym e) back) in
+    subst (λ j. MarksRoseOften k (marks_of (meant n)) (marks_of (new.means j))) e (moved is rose)
+  where
+    moved : IsMeant (new.means x.number) (archives.meaning x.archive) → MarksRoseOften k (marks_of (meant n)) (marks_of (archives.meaning x.archive))
+        → MarksRoseOften k (marks_of (meant n)) (marks_of (new.means x.number))
+    moved is (inl r) = inl (subst (λ y. ((meant n).faults + k ≤ y) ⊎ (2 ^ 64 - 1 ≤ y)) is.faulted r)
+    moved is (inr r) = inr (subst (λ y. Rose (meant n).losses y) is.lost r)
+
 -- THE ANSWER
 
 failure_is : (missing : List ℕ) (given : Result (Unit {0}) Failed) (kept : Result (Unit {0}) Stop) → AnswersFor missing given → first_failure given kept ≡ close_answer missing kept
@@ -138,13 +152,13 @@ opened_by old first g = elim (cases_lt g (length old.groups.names)) [
 
 -- what the image of a close is, from its parts
 leaves_of : (read : List Table) (old new : Known) (room : Transition RoomState) (missing : List ℕ) (first last : Contents) → AreFirstPasses old.groups old.index → IsBegun first last.session last.rack read (records_read new.index)
-    → LeaveGroups (IsTrue room.tells) room.before.means (IsInRoom (IsTrue room.tells) room.after.means missing) read last.group_logs (map still last.tables) → LeavesLogs old new last.rack last.group_logs last.index_log last.records
-    → (IsTrue room.tells → AreOpened room.before.means (RoseInRoom room.before.means room.after.means missing) first.tables (section_of old new))
+    → LeaveGroups (IsTrue room.tells) room.before.means (IsInRoom (IsTrue room.tells) room.after.means missing) first.tables last.group_logs (map still last.tables) → LeavesLogs old new last.rack last.group_logs last.index_log last.records
+    → (IsTrue room.tells → AreOpened room.before.means (RoseInRoom room.before.means room.after.means missing) (RoseOftenInRoom room.before.means room.after.means missing) first.tables (section_of old new))
     → Leaves room missing first (record last { tables = map still last.tables }) (section_of old new)
 leaves_of read old new room missing first last opened b groups left found = record {
   session = sym b.is_session;
   rack = sym b.is_rack;
-  groups = subst (λ ts. LeaveGroups (IsTrue room.tells) room.before.means (IsInRoom (IsTrue room.tells) room.after.means missing) ts last.group_logs (map still last.tables)) (sym b.are_tables) groups;
+  groups = groups;
   records = subst (λ r. LeavesRecords r first.records (section_of old new).index_added last.index_log last.records) (sym b.is_rack)
       (subst (λ rs. LeavesRecords last.rack rs (section_of old new).index_added last.index_log last.records) (sym b.are_records) left.records);
   logs = left.are_logs;
@@ -173,32 +187,66 @@ pub desk_failure : (given : Result (Unit {0}) Failed) (kept : Result (Unit {0}) 
 desk_failure (Err f) kept e = absurd (cc)
 desk_failure (Ok u) kept e = e
 
+-- what groups leave, by what the room means after it, and the blinds that the passes saw
+abbrev Left : {A : Type 0} → Account A Meaning → RoomState → RoomState → Known → Known → Contents → List ℕ → List Table → Type 0
+Left archives meant means old new last missing read =
+    (left : LeaveGroups (IsTrue archives.tells) meant.means (IsInRoom (IsTrue archives.tells) means.means missing) read last.group_logs (map still last.tables))
+    × ((job : ℕ) → 0 < job → HaveBlinds left job (blinds_by job old.groups new.groups))
+
+-- the groups that were left, by another fact of their archives; the views are the same
+abbrev same_views : (told : Type 0) (meant : ℕ → Meaning) (Has Is : Shelves → ℕ → Type 0) (read : List Table) (logs : List (List Entry)) (written : List Table) → ((s : Shelves) (n : ℕ) → Has s n → Is s n)
+    → LeaveGroups told meant Has read logs written → LeaveGroups told meant Is read logs written
+same_views told meant Has Is read logs written is l = record {
+  count = l.count;
+  count_logs = l.count_logs;
+  each = λ g t u log et eu el. record {
+    view = (l.each g t u log et eu el).view;
+    first = (l.each g t u log et eu el).first;
+    is_log = (l.each g t u log et eu el).is_log;
+    is = (l.each g t u log et eu el).is;
+    settled = (l.each g t u log et eu el).settled;
+    execution = (l.each g t u log et eu el).execution;
+    marked = (l.each g t u log et eu el).marked;
+    taken = (l.each g t u log et eu el).taken;
+    within = (l.each g t u log et eu el).within;
+    archives = λ n has. is (l.each g t u log et eu el).view.shelves n ((l.each g t u log et eu el).archives n has);
+  };
+}
+
 -- A close leaves the image of what its vault left. `meant` is what the room meant when the session
 -- was opened, `worked` what it meant before the close, and `means` what it means after it.
 pub closes : {A : Type 0} (archives : Account A Meaning) (hand : List (Shelf A)) (meant worked means : RoomState) (read : List Table) (old new : Known) (rack : Rack) (desk : Transition (Content (Option (List ℕ)))) (first last : Contents)
     (given : Result (Unit {0}) Failed) (kept closed : Result (Unit {0}) Stop) → (IsTrue desk.tells → Keeps (held_in desk) (image_bytes last) kept) → IfErr kept IsKeepStop → Caused desk.before.faults desk.after.faults (kept ≡ Err stop.DeskFault)
     → GivesBack archives hand worked means given → AreFirstPasses old.groups old.index
-    → IsBegun first last.session last.rack read (records_read new.index) → last.rack ≡ rack → LeaveGroups (IsTrue archives.tells) meant.means (IsInHand archives.meaning hand) read last.group_logs (map still last.tables)
+    → IsBegun first last.session last.rack read (records_read new.index) → last.rack ≡ rack
+    → (left : LeaveGroups (IsTrue archives.tells) meant.means (IsInHand archives.meaning hand) read last.group_logs (map still last.tables)) × ((job : ℕ) → 0 < job → HaveBlinds left job (blinds_by job old.groups new.groups))
     → LeavesLogs old new rack last.group_logs last.index_log last.records
-    → (IsTrue archives.tells → AreOpened meant.means (RoseInHand archives.meaning hand meant.means) first.tables (section_of old new))
+    → (IsTrue archives.tells → AreOpened meant.means (RoseInHand archives.meaning hand meant.means) (RoseOftenInHand archives.meaning hand meant.means) first.tables (section_of old new))
     → closed ≡ first_failure given kept → IfWritten kept (IsWhole last) → Closes old new (transition_by archives.tells meant means) worked.failures desk first closed
-closes archives hand meant worked means read old new rack desk first last given kept closed k which cause back opened b same groups left found is whole = record {
-  last = record last { tables = map still last.tables };
-  sole = left.sole;
-  missing = back.missing;
-  failed_at = back.failed_at;
-  leaves = leaves_of read old new (transition_by archives.tells meant means) back.missing first last opened b
-      (other_groups (IsTrue archives.tells) meant.means (IsInHand archives.meaning hand) (IsInRoom (IsTrue archives.tells) means.means back.missing) read last.group_logs (map still last.tables)
-      (in_room archives hand worked means given back) groups)
-      (subst (λ r. LeavesLogs old new r last.group_logs last.index_log last.records) (sym same) left)
-      (λ t g u q. opened_as meant.means (RoseInHand archives.meaning hand meant.means) (RoseInRoom meant.means means.means back.missing) u ((section_of old new).before g)
-      (rose_in_room archives hand meant.means worked means given back t) (found t g u q));
-  kept = kept;
-  whole = if_written kept (still_whole last) whole;
-  keeps = λ held. record {
-    holds = λ t. subst (λ b. Keeps (since (held_in desk) (Some (image_bytes first))) b kept) (sym (same_image last)) (subst (λ h. Keeps (since (held_in desk) h) (image_bytes last) kept) (held t) (k t));
-    which = which;
-    cause = cause;
-  };
-  is = is ∙ failure_is back.missing given kept back.answers;
-}
+unfolding leaves_of
+closes archives hand meant worked means read old new rack desk first last given kept closed k which cause back opened b same groups left found is whole =
+    let moved : Left archives meant means old new last back.missing first.tables = subst (Left archives meant means old new last back.missing) (sym b.are_tables) (
+      same_views (IsTrue archives.tells) meant.means (IsInHand archives.meaning hand) (IsInRoom (IsTrue archives.tells) means.means back.missing) read last.group_logs (map still last.tables)
+          (in_room archives hand worked means given back) groups.0,
+      λ job some. record { are = (groups.1 job some).are; none = (groups.1 job some).none },
+    ) in
+    record {
+      last = record last { tables = map still last.tables };
+      sole = left.sole;
+      missing = back.missing;
+      failed_at = back.failed_at;
+      leaves = leaves_of read old new (transition_by archives.tells meant means) back.missing first last opened b moved.0
+          (subst (λ r. LeavesLogs old new r last.group_logs last.index_log last.records) (sym same) left)
+          (λ t g u q. opened_as meant.means (RoseInHand archives.meaning hand meant.means) (RoseInRoom meant.means means.means back.missing)
+          (RoseOftenInHand archives.meaning hand meant.means) (RoseOftenInRoom meant.means means.means back.missing) u ((section_of old new).before g)
+          (rose_in_room archives hand meant.means worked means given back t) (often_in_room archives hand meant.means worked means given back t) (found t g u q));
+      blinds = moved.1;
+      kept = kept;
+      whole = if_written kept (still_whole last) whole;
+      keeps = λ held. record {
+        holds = λ t. subst (λ b. Keeps (since (held_in desk) (Some (image_bytes first))) b kept) (sym (same_image last)) (subst (λ h. Keeps (since (held_in desk) h) (image_bytes last) kept) (held t) (k t));
+        which = which;
+        cause = cause;
+      };
+      is = is ∙ failure_is back.missing given kept back.answers;
+    }

@@ -23,7 +23,7 @@ use Rattle.pot_shared.specs.Works.{Known, gained}
 use Rattle.pot_shared.proofs.Lists.{all_at_place, flat_contains}
 use Rattle.pot_shared.proofs.Times.{times-append}
 use Rattle.pot_session.specs.Losses.{all_had}
-use Rattle.pot_session.specs.Serving.{Leaves, came_by}
+use Rattle.pot_session.specs.Serving.{Leaves, ShareNone, came_by}
 use Rattle.pot_session.proofs.LeftArchives.{archives_of, low_number, tables_left}
 use Rattle.pot_session.proofs.LeftEntries.{entries_fit, still_fits}
 use Rattle.pot_session.proofs.LeftRecords.{each_of, records_left}
@@ -34,6 +34,16 @@ pub had_numbers : (old new : Known) (numbers : List ℕ) (read : List Table) (lo
 had_numbers old new numbers read logs come sole tables came n =
     (let a = times-append n (flat_map archives_in read) (flat_map arrivals logs) in let b = ap (λ ts. times n (flat_map archives_in ts)) tables in let c = came n in let d = come sole n in
     omega (arith, a, b, c, d))
+
+-- no two columns share an archive
+pub share_none : (room : Transition RoomState) (missing : List ℕ) (first last : Contents) (w : Section) → Leaves room missing first last w → FitsTogether first → AreApart (all_had first.tables last.group_logs) → ShareNone first last
+share_none room missing first last w leaves fits apart = record {
+  had = apart;
+  left = λ n.
+      (let l = tables_left (IsTrue room.tells) room.before.means _ first.tables last.tables last.group_logs leaves.groups
+      (λ g t q. (all_at_place (FitsTable first.rack) first.tables g t fits.tables.fits q).rules.size.columns) n in
+      let a = apart n in omega (arith, l, a));
+}
 
 module _ (room : Transition RoomState) (missing : List ℕ) (first last : Contents) (w : Section) (leaves : Leaves room missing first last w) (fits : FitsTogether first)
     (apart : AreApart (all_had first.tables last.group_logs)) (low : AreLow (all_had first.tables last.group_logs)) (whole : IsWhole last) where

@@ -131,6 +131,15 @@ were_read archives number old middle new front untouched le others last = record
     | inr (inr behind) ↦
         subst (λ m. WasRead m (new.means n)) (untouched n (omega (arith, behind))) (subst (λ m. WasRead (middle.means n) m) (sym (others n (λ e. omega (arith, behind, e)))) (read_not (middle.means n)))
   ];
+  behind = λ n lt. others n (λ e. omega (arith, lt, e)) ∙ untouched n (omega (arith, lt));
+}
+
+-- all of them were read and given back, and none behind them was touched
+pub all_read : (archives number : ℕ) (old new : RoomState) → archives ≤ number → ((n : ℕ) → n < number → WasRead (old.means n) (new.means n)) → ((n : ℕ) → number ≤ n → new.means n ≡ old.means n) → WereRead archives old new
+all_read archives number old new all read untouched = record {
+  but = number;
+  read = λ n less why. read n (omega (arith, less, all));
+  behind = λ n lt. untouched n (omega (arith, lt));
 }
 
 -- what a call tells that succeeded

@@ -26,13 +26,15 @@ use Rattle.pot_shared.specs.declared.member.GroupOrigin.{GroupOrigin}
 use Rattle.pot_shared.specs.Ready.{GroupPass, GroupPasses, AreReady}
 use Rattle.pot_shared.specs.Catalogs.{IndexPass, IndexPasses, records_in}
 use Rattle.pot_shared.specs.Sharing.{HasAllButKept}
-use Rattle.pot_shared.specs.Works.{Known, known, section_of}
+use Rattle.pot_pads.specs.Pads.{pads_of}
+use Rattle.pot_shared.specs.Blinds.{AreDrawn}
+use Rattle.pot_shared.specs.Works.{Known, known, blinds_by, section_of}
 use Rattle.pot_commands.specs.declared.working.Ending.{Ending}
 use Rattle.pot_commands.specs.declared.working.Ending.TheVariants as ending
 use Rattle.pot_commands.specs.Rows.{HasFilled, IsSessionSetting}
 use Rattle.pot_commands.specs.Ends.{Ends}
 use Rattle.pot_commands.specs.Failures.{Fails}
-use Rattle.pot_shared.specs.Going.{Stays}
+use Rattle.pot_shared.specs.Going.{AllOnlyWriters, Stays}
 use Rattle.pot_commands.proofs.Judging.{ends_over}
 use Rattle.pot_session.specs.declared.ending.status.Status.{Status}
 use Rattle.pot_session.specs.declared.ending.status.Status.TheVariants as status
@@ -43,7 +45,7 @@ use Rattle.pot_session.specs.Losses.{all_had}
 use Rattle.pot_shared.specs.Groups.{AreFirstPasses, AreLow, IsFirstTable, table_read, tables_read, records_read}
 use Rattle.pot_shared.proofs.Lists.{at_same}
 use Rattle.pot_session.proofs.CloseImages.{if_written}
-use Rattle.pot_session.proofs.LeftImage.{left_image}
+use Rattle.pot_session.proofs.LeftImage.{left_image, share_none}
 use Rattle.pot_session.proofs.LossLemmas.{lost_where_few}
 use Rattle.pot_session.specs.Serving.{Serves, Closed, Closes, IsCloseStop, IsEnd, OthersStay, setting_of, status_after}
 
@@ -153,8 +155,9 @@ pub serves_closed : (seed : List ℕ) (first : Contents) (steps : List Step) (ro
     → session ≡ first.session → Ends rack seed session sink steps old new e → Fails room.before.failures worked (e ≡ ending.RoomFailed) → (closes : Closes old new room worked desk first closed)
     → (IsTrue desk.tells → desk.before.held ≡ Some (image_bytes first)) → (IsTrue room.tells → (e ≡ ending.RoomFailed → ⊥) → OthersStay first.tables closes.last.group_logs room.before.means room.after.means)
     → answer ≡ status_after e closed → FitsTogether first → length first.records + log_bound ≤ 4000000000
-    → AreApart (all_had first.tables closes.last.group_logs) → AreLow (all_had first.tables closes.last.group_logs) → Serves seed first steps room sink desk answer
-serves_closed seed first steps room sink desk rack session old new e worked closed answer opened tables records same number ends fails closes kept others status fits space apart low = Closed (record {
+    → AreApart (all_had first.tables closes.last.group_logs) → AreLow (all_had first.tables closes.last.group_logs)
+    → (AllOnlyWriters old new → (job : ℕ) → AreDrawn (pads_of seed session job) (blinds_by job old.groups new.groups)) → Serves seed first steps room sink desk answer
+serves_closed seed first steps room sink desk rack session old new e worked closed answer opened tables records same number ends fails closes kept others status fits space apart low blinds = Closed (record {
   last = closes.last;
   story = section_of old new;
   ending = e;
@@ -166,6 +169,8 @@ serves_closed seed first steps room sink desk rack session old new e worked clos
   missing = closes.missing;
   failed_at = closes.failed_at;
   leaves = closes.leaves;
+  apart = share_none room closes.missing first closes.last (section_of old new) closes.leaves fits apart;
+  blinded = λ job some. (blinds_by job old.groups new.groups, closes.blinds job some, subst (λ n. AreDrawn (pads_of seed n job) (blinds_by job old.groups new.groups)) number (blinds closes.sole job));
   others = others;
   lost = λ told back none. lost_where_few (IsTrue room.tells) seed first closes.last room.before.means room.after.means closes.missing told fits closes.leaves.groups back none;
   kept = closes.kept;

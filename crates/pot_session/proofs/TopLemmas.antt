@@ -25,7 +25,7 @@ use Rattle.pot_session.specs.Calls.{Runs, Session}
 use Rattle.pot_session.specs.Tasks.{seed_of}
 use Rattle.pot_session.specs.Making.{IsMakeStop, InitAnswers}
 use Rattle.pot_session.specs.Serving.{Closed, Serves, Unlent, Unopened, IsEnd}
-use Rattle.pot_session.specs.Stops.{Refuses, status_of}
+use Rattle.pot_session.specs.Stops.{Refuses, code_of, status_of}
 
 by_status : (sink : Transition (List ℕ)) (s : Stop) (answer x : Status) → Refuses sink s answer → answer ≡ x → (x ≡ status.SinkFault → ⊥) → (x ≡ status.NoMemory → ⊥) → status_of s ≡ x
 by_status sink s answer x (inl h) e f k = sym h.0 ∙ e
@@ -94,6 +94,8 @@ longer seed first steps room sink desk mid answer le (Closed c) = Closed (record
   missing = c.missing;
   failed_at = c.failed_at;
   leaves = c.leaves;
+  apart = c.apart;
+  blinded = c.blinded;
   others = c.others;
   lost = c.lost;
   kept = c.kept;
@@ -123,3 +125,19 @@ served seed seen answer image steps used mid p read same serves is untouched le 
 -- a session with the seed of its words
 pub with_seed : (words : List Text) (drawn seed : List ℕ) (run : Run) (seen : Seen) (answer : Status) → seed ≡ seed_of run drawn → SpellTask words (task.Run run) → Holds seed seen answer → Runs words drawn seen answer
 with_seed words drawn seed run seen answer e spelled holds = Session run spelled (subst (λ s. Holds s seen answer) e holds)
+
+-- 8 is the code of a failed room alone
+pub room_code : (s : Status) → code_of s ≡ 8 → s ≡ status.RoomFault
+room_code status.RoomFault e = refl
+room_code status.Good e = absurd (let z : 0 ≡ 8 = e in omega (arith, z))
+room_code status.Refusals e = absurd (let z : 1 ≡ 8 = e in omega (arith, z))
+room_code status.WordsRefused e = absurd (let z : 2 ≡ 8 = e in omega (arith, z))
+room_code status.ScriptRefused e = absurd (let z : 3 ≡ 8 = e in omega (arith, z))
+room_code status.SourceFault e = absurd (let z : 4 ≡ 8 = e in omega (arith, z))
+room_code status.SinkFault e = absurd (let z : 5 ≡ 8 = e in omega (arith, z))
+room_code status.DeskFault e = absurd (let z : 6 ≡ 8 = e in omega (arith, z))
+room_code status.ImageRefused e = absurd (let z : 7 ≡ 8 = e in omega (arith, z))
+room_code status.SessionSpent e = absurd (let z : 9 ≡ 8 = e in omega (arith, z))
+room_code status.ImageExists e = absurd (let z : 10 ≡ 8 = e in omega (arith, z))
+room_code status.TooWide e = absurd (let z : 11 ≡ 8 = e in omega (arith, z))
+room_code status.NoMemory e = absurd (let z : 70 ≡ 8 = e in omega (arith, z))

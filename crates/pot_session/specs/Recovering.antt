@@ -1,17 +1,20 @@
 -- The blocks that are read from archives without a desk, the objects that they give, and what
 -- `recover` comes to.
-use Rattle.std.specs.Prelude.{◌≡◌, ◌≢◌, ◌<◌, ◌≤◌, ◌-◌, ◌^◌, ◌⊎◌, ℕ, Bool, true, false, List, Some}
+use Rattle.std.specs.Prelude.{◌≡◌, ◌≢◌, ◌<◌, ◌≤◌, ◌-◌, ◌^◌, ◌⊎◌, ℕ, List, Some}
 use Rattle.std.specs.Prelude.{Result, Ok, Err, Contains, IsTrue}
 use Rattle.pot_outside.specs.Accounts.{Transition}
 use Rattle.pot_outside.specs.Archives.{Meaning, OnlyLoses}
 use Rattle.pot_outside.specs.Counts.{Rose}
 use Rattle.pot_outside.specs.Rooms.{RoomState}
+use Rattle.pot_recover.specs.Open.{AreOpenlyRecovered, IsOpenlyTooWide, IsOpenlyWithin}
 use Rattle.pot_recover.specs.Recovered.{AreRecovered}
 use Rattle.pot_recover.specs.Robust.{AreRobustlyRecovered, IsRobustlyTooWide, IsRobustlyWithin}
 use Rattle.pot_recover.specs.Wide.{IsTooWide, IsWithin}
 use Rattle.pot_recover.specs.declared.top.RecoverFault.{RecoverFault}
 use Rattle.pot_recover.specs.declared.top.RecoverFault.TheVariants.{Wide}
 use Rattle.pot_words.specs.declared.recover.Recover.{Recover}
+use Rattle.pot_words.specs.declared.recover.Way.{Way}
+use Rattle.pot_words.specs.declared.recover.Way.TheVariants as way
 use Rattle.pot_session.specs.declared.ending.status.Status.{Status}
 use Rattle.pot_session.specs.declared.ending.stop.Stop.{Stop}
 use Rattle.pot_session.specs.declared.ending.stop.Stop.TheVariants as stop
@@ -68,11 +71,12 @@ pub record AreHeldIn (archives stripes : ℕ) (meant means : ℕ → Meaning)
   pub read : (n : ℕ) → n < archives → WasRead (meant n) (means n)
 
 -- The first archives were read and no more, by what the room meant before and means after; but for
--- one, and for that only where the room failed itself.
+-- one, and for that only where the room failed itself. None behind that one was touched.
 pub record WereRead (archives : ℕ) (old new : RoomState) : Type 0 where
   pub but : ℕ
   pub read : (n : ℕ) → n < archives → n ≢ but ⊎ (Rose old.failures new.failures → ⊥)
       → WasRead (old.means n) (new.means n)
+  pub behind : (n : ℕ) → but < n → new.means n ≡ old.means n
 
 -- FAILURES
 
@@ -92,17 +96,21 @@ pub record FailsOr (room : Transition RoomState) (archive failed : Type 0) : Typ
 
 -- THE WHOLE
 
--- The objects that these blocks give by rings that close, or by rings that close robustly where
--- that is asked for. Both counts are borne.
-abbrev pub GiveObjects : Bool → List (List ℕ) → ℕ → List (List ℕ) → Type 0
-GiveObjects false blocks bits objects = AreRecovered blocks bits objects × IsWithin blocks bits
-GiveObjects true blocks bits objects =
+-- The objects that these blocks give by rings that close, or where that is asked for by rings that
+-- close robustly or by open chains. Both counts are borne.
+abbrev pub GiveObjects : Way → List (List ℕ) → ℕ → List (List ℕ) → Type 0
+GiveObjects way.Rings blocks bits objects =
+    AreRecovered blocks bits objects × IsWithin blocks bits
+GiveObjects way.Robust blocks bits objects =
     AreRobustlyRecovered blocks bits objects × IsRobustlyWithin blocks bits
+GiveObjects way.Chains blocks bits objects =
+    AreOpenlyRecovered blocks bits objects × IsOpenlyWithin blocks bits
 
 -- one of the two counts is not borne
-abbrev pub GiveTooMany : Bool → List (List ℕ) → ℕ → RecoverFault → Type 0
-GiveTooMany false blocks bits fault = IsTooWide blocks bits fault
-GiveTooMany true blocks bits fault = IsRobustlyTooWide blocks bits fault
+abbrev pub GiveTooMany : Way → List (List ℕ) → ℕ → RecoverFault → Type 0
+GiveTooMany way.Rings blocks bits fault = IsTooWide blocks bits fault
+GiveTooMany way.Robust blocks bits fault = IsRobustlyTooWide blocks bits fault
+GiveTooMany way.Chains blocks bits fault = IsOpenlyTooWide blocks bits fault
 
 -- The blocks that were read give these objects; or they are too wide; or an archive or the room
 -- failed, or memory ran out.
@@ -110,11 +118,11 @@ abbrev pub FindsObjects : Recover → Transition RoomState → Result (List (Lis
 FindsObjects r room (Ok objects) =
     (blocks : List (List ℕ))
     × (IsTrue room.tells → AreHeldIn r.archives r.stripes room.before.means room.after.means blocks)
-    × GiveObjects r.robust blocks r.blur objects
+    × GiveObjects r.way blocks r.blur objects
 FindsObjects r room (Err stop.TooWide) =
     (blocks : List (List ℕ))
     × (IsTrue room.tells → AreHeldIn r.archives r.stripes room.before.means room.after.means blocks)
-    × ((chains : ℕ) × (choices : ℕ) × GiveTooMany r.robust blocks r.blur (Wide chains choices))
+    × ((chains : ℕ) × (choices : ℕ) × GiveTooMany r.way blocks r.blur (Wide chains choices))
 FindsObjects r room (Err stop.RoomFault) = Unit {0}
 FindsObjects r room (Err stop.NoMemory) = Unit {0}
 FindsObjects r room (Err _) = ⊥

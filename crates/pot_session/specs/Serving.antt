@@ -1,7 +1,7 @@
 -- What a session leaves: the replies of its steps, and the image of its close with the logs by
 -- which they have them.
-use Rattle.std.specs.Prelude.{◌≡◌, ◌≤◌, ℕ, true, List, [], ◌∷◌, Option, Some, Result, Ok, Err, IfErr}
-use Rattle.std.specs.Prelude.{flat_map, if◌then◌else◌, length, map, slice_index_or, IsTrue}
+use Rattle.std.specs.Prelude.{◌≡◌, ◌<◌, ◌≤◌, ℕ, true, List, [], ◌∷◌, Option, Some, Result, Ok, Err}
+use Rattle.std.specs.Prelude.{IfErr, flat_map, if◌then◌else◌, length, map, slice_index_or, IsTrue}
 use Rattle.pot_bytes.specs.Rack.{log_bound}
 use Rattle.pot_outside.specs.Accounts.{Content, Transition, Stays, held_in, since}
 use Rattle.pot_outside.specs.Archives.{Meaning, IsMeant}
@@ -23,7 +23,8 @@ use Rattle.pot_replies.specs.Sections.{Section}
 use Rattle.pot_replies.specs.Sessions.{ByNobody}
 use Rattle.pot_replies.specs.Settings.{Setting}
 use Rattle.pot_store.specs.Drawing.{blocks_from}
-use Rattle.pot_shared.specs.Works.{Known, section_of}
+use Rattle.pot_shared.specs.Blinded.{AreBlinded, HaveBlinds}
+use Rattle.pot_shared.specs.Works.{Known, blinds_by, section_of}
 use Rattle.pot_commands.specs.declared.working.Ending.{Ending}
 use Rattle.pot_commands.specs.declared.working.Ending.TheVariants as ending
 use Rattle.pot_commands.specs.declared.working.Ending.TheVariants.{RoomFailed}
@@ -31,7 +32,7 @@ use Rattle.pot_commands.specs.Ends.{EndsOver}
 use Rattle.pot_commands.specs.Failures.{Fails}
 use Rattle.pot_commands.specs.Holding.{Untouched}
 use Rattle.pot_shared.specs.Going.{AllOnlyWriters}
-use Rattle.pot_shared.specs.Hands.{times}
+use Rattle.pot_shared.specs.Hands.{AreApart, times}
 use Rattle.pot_shared.specs.Coming.{marks_of}
 use Rattle.pot_session.specs.declared.ending.status.Status.{Status}
 use Rattle.pot_session.specs.declared.ending.status.Status.TheVariants as status
@@ -39,10 +40,10 @@ use Rattle.pot_session.specs.declared.ending.stop.Stop.{Stop}
 use Rattle.pot_session.specs.declared.ending.stop.Stop.TheVariants as stop
 use Rattle.pot_session.specs.Desks.{IfWritten, IsKeepStop, Keeps}
 use Rattle.pot_session.specs.Giving.{FailsAt, IsUnlent, IsUnopened}
-use Rattle.pot_shared.specs.Groups.{MarksRose}
+use Rattle.pot_shared.specs.Groups.{MarksRose, MarksRoseOften}
 use Rattle.pot_shared.specs.Leaving.{AreLogs, AreOpened, ArePut, LeaveGroups, LeavesRecords}
 use Rattle.pot_shared.specs.Leaving.{Shows}
-use Rattle.pot_session.specs.Losses.{AreBack, LostNone, LostWhereFew}
+use Rattle.pot_session.specs.Losses.{AreBack, LostNone, LostWhereFew, all_had}
 use Rattle.pot_session.specs.Stops.{status_of}
 
 -- THE IMAGE OF A CLOSE
@@ -56,9 +57,15 @@ abbrev pub RoseInRoom : (ℕ → Meaning) → (ℕ → Meaning) → List ℕ →
 RoseInRoom meant means missing n =
     times n missing ≡ 0 → MarksRose (marks_of (meant n)) (marks_of (means n))
 
+-- and so often
+abbrev pub RoseOftenInRoom : (ℕ → Meaning) → (ℕ → Meaning) → List ℕ → ℕ → ℕ → Type 0
+RoseOftenInRoom meant means missing n k =
+    times n missing ≡ 0 → MarksRoseOften k (marks_of (meant n)) (marks_of (means n))
+
 -- The image that a session which began with the first one leaves. Its logs are those of the
 -- openings, which are of no job, rest on blocks that the room meant, and call a slot Gone whose
--- block the room meant only where a count of its archive rose; and then this section. That of the
+-- block the room meant only where a count of its archive rose: of one archive no more slots than
+-- its count of faults rose, unless its count of losses did; and then this section. That of the
 -- index is no longer than a log may be, and what came to it was put. `missing` has the archives
 -- that the room did not take back.
 pub record Leaves (room : Transition RoomState) (missing : List ℕ) (first last : Contents)
@@ -73,7 +80,7 @@ pub record Leaves (room : Transition RoomState) (missing : List ℕ) (first last
   pub opened : (g : ℕ) → ByNobody (w.before g)
   pub found : IsTrue room.tells
       → AreOpened room.before.means (RoseInRoom room.before.means room.after.means missing)
-      first.tables w
+      (RoseOftenInRoom room.before.means room.after.means missing) first.tables w
   pub index_opened : w.index_before ≡ []
   pub few : length last.index_log ≤ log_bound
   pub put : ArePut last.group_logs w.index_added
@@ -96,7 +103,8 @@ pub record KeepsLast (desk : Transition (Content (Option (List ℕ)))) (first la
   pub cause : Caused desk.before.faults desk.after.faults (kept ≡ Err stop.DeskFault)
 
 -- A close leaves this image: nobody else logged anything since the passes knew the first, and its
--- logs are what they saw. `worked` is how often the room had failed itself before the close.
+-- logs are what they saw, with the blinds of the relays. `worked` is how often the room had failed
+-- itself before the close.
 pub record Closes (old new : Known) (room : Transition RoomState) (worked : ℕ)
     (desk : Transition (Content (Option (List ℕ)))) (first : Contents)
     (closed : Result (Unit {0}) Stop) : Type 0 where
@@ -105,6 +113,8 @@ pub record Closes (old new : Known) (room : Transition RoomState) (worked : ℕ)
   pub missing : List ℕ
   pub failed_at : FailsAt worked room.after.failures missing
   pub leaves : Leaves room missing first last (section_of old new)
+  pub blinds : (job : ℕ) → 0 < job
+      → HaveBlinds leaves.groups job (blinds_by job old.groups new.groups)
   pub kept : Result (Unit {0}) Stop
   pub whole : IfWritten kept (IsWhole last)
   pub keeps : (IsTrue desk.tells → desk.before.held ≡ Some (image_bytes first))
@@ -161,11 +171,17 @@ OthersStay read logs meant means =
     (n : ℕ) → times n (flat_map archives_in read) ≡ 0 → times n (came_by logs) ≡ 0
     → IsMeant (meant n) (means n)
 
+-- No two columns share an archive, be they of one group or of two: each archive stands once among
+-- those that the session had, and once in the tables that it left.
+pub record ShareNone (first last : Contents) : Type 0 where
+  pub had : AreApart (all_had first.tables last.group_logs)
+  pub left : AreApart (flat_map archives_in last.tables)
+
 -- Steps were worked, and the session closed, whatever became of the steps. The image of the close
 -- keeps the rules of images, unless memory ran out over it, and has the logs by which the steps
--- have their replies. The room failed itself at the steps exactly
--- where they ended so, and in the close at each archive that is missing and at no other; `worked`
--- is how often it had failed once the steps had ended.
+-- have their replies. Each relay of a job began with a blind that is drawn from the job's stream.
+-- The room failed itself at the steps exactly where they ended so, and in the close at each archive
+-- that is missing and at no other; `worked` is how often it had failed once the steps had ended.
 pub record IsClosed (seed : List ℕ) (first : Contents) (steps : List Step) (room : Transition RoomState)
     (sink : Transition (List ℕ)) (desk : Transition (Content (Option (List ℕ)))) (answer : Status) : Type 0 where
   pub last : Contents
@@ -177,6 +193,8 @@ pub record IsClosed (seed : List ℕ) (first : Contents) (steps : List Step) (ro
   pub missing : List ℕ
   pub failed_at : FailsAt worked room.after.failures missing
   pub leaves : Leaves room missing first last story
+  pub apart : ShareNone first last
+  pub blinded : AreBlinded seed first.session leaves.groups
   pub others : IsTrue room.tells → (ending ≡ RoomFailed → ⊥)
       → OthersStay first.tables last.group_logs room.before.means room.after.means
   pub lost : IsTrue room.tells → AreBack missing first.tables last.group_logs

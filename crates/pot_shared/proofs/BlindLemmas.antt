@@ -1,5 +1,5 @@
 -- Where the blinds of a job's relays come from, part after part.
-use Rattle.std.proofs.Common.{◌≡◌, ◌≢◌, ⊎_elim, inl, inr, ℕ, Bool, true, false, List, [], ◌∷◌, ◌++◌, refl, ap, ap₂, sym, ◌∙◌, subst}
+use Rattle.std.proofs.Common.{◌≡◌, ◌≢◌, ◌≤◌, ◌+◌, ⊎_elim, inl, inr, ℕ, Bool, true, false, List, [], ◌∷◌, ◌++◌, refl, ap, ap₂, sym, ◌∙◌, subst, arith}
 use Rattle.std.specs.Prelude.{filter}
 use Rattle.std.proofs.lemmas.Bool.{cases_eq}
 use Rattle.std.proofs.lemmas.Bool.Decides.{eqb_tells}
@@ -22,7 +22,7 @@ use Rattle.pot_shared.specs.Seen.{RowKnowsMore}
 use Rattle.pot_shared.specs.Adds.{Adds}
 use Rattle.pot_shared.specs.Blinds.{BeganNone, Blinds, behind, blinds_for, is_begin}
 use Rattle.pot_shared.specs.Works.{OnlySaw, blinds_by, blinds_in, gained, of_job}
-use Rattle.pot_shared.proofs.DrawLemmas.{behind_append, behind_draws, by_more, by_none, draws_of, for_append, for_group, for_other}
+use Rattle.pot_shared.proofs.DrawLemmas.{behind_append, behind_draws, by_more, by_none, draws_of, dropped_append, dropped_draws, for_append, for_group, for_other}
 use Rattle.pot_shared.proofs.WorkLemmas.{known_none, known_work, own_more, saw_none}
 
 -- NO RELAY BEGAN
@@ -79,17 +79,19 @@ none_known job rack names old new ready knows = record {
 -- BLINDS
 
 module _ {job : ℕ} where
-  pub blinds_quiet : {pads : Pads} {old new : GroupPasses} → BeganNone job old new → Blinds job pads pads old new
-  blinds_quiet {pads} {old} {new} quiet = record { worked = quiet.worked; draws = []; stream = refl; blinds = λ alone g. by_none job old new g (quiet.none alone g) }
+  pub blinds_quiet : {most : ℕ} {pads : Pads} {old new : GroupPasses} → BeganNone job old new → Blinds job most pads pads old new
+  blinds_quiet {most} {pads} {old} {new} quiet = record { worked = quiet.worked; draws = []; few = omega arith; stream = refl; blinds = λ alone g. by_none job old new g (quiet.none alone g) }
 
   -- nothing was done
-  pub blinds_none : {pads : Pads} {row : GroupPasses} → AllIdle row → Blinds job pads pads row row
-  blinds_none {pads} {row} idle = blinds_quiet (none_yet job row idle)
+  pub blinds_none : {most : ℕ} {pads : Pads} {row : GroupPasses} → AllIdle row → Blinds job most pads pads row row
+  blinds_none {most} {pads} {row} idle = blinds_quiet (none_yet job row idle)
 
-  pub blinds_mends : {told : Type 0} {p : Place} {pads after : Pads} {result : Mending} {old new : GroupPasses} → MendsPlace told job p pads after result old new → Blinds job pads after old new
+  -- one was dropped at the place
+  pub blinds_mends : {told : Type 0} {p : Place} {pads after : Pads} {result : Mending} {old new : GroupPasses} → MendsPlace told job p pads after result old new → Blinds job 1 pads after old new
   blinds_mends {told} {p} {pads} {after} {result} {old} {new} mends = record {
     worked = mends.worked;
     draws = draws_of p.group n;
+    few = (let one = dropped_draws p.group n in omega (arith, one));
     stream = mends.stream ∙ sym (behind_draws p.group pads n);
     blinds = (λ alone g. elim (eqb_tells p.group g) [
       | inl here ↦ subst (λ k. blinds_by job old new k ≡ blinds_for k pads (draws_of p.group n)) here.1 (mends.blinds alone ∙ sym (for_group p.group pads n))
@@ -102,14 +104,32 @@ module _ {job : ℕ} where
       n = total begins mends.before
 
   -- one behind the other
-  pub blinds_then : {a b c : Pads} {u v w : GroupPasses} → Blinds job a b u v → Blinds job b c v w → Blinds job a c u w
-  blinds_then {a} {b} {c} {u} {v} {w} one two = record {
+  pub blinds_then : {n m most : ℕ} {a b c : Pads} {u v w : GroupPasses} → Blinds job n a b u v → Blinds job m b c v w → n + m ≤ most → Blinds job most a c u w
+  blinds_then {n} {m} {most} {a} {b} {c} {u} {v} {w} one two both = record {
     worked = row_work_in_parts (of_job job) u v w one.worked two.worked;
     draws = one.draws ++ two.draws;
+    few = (let all = dropped_append one.draws two.draws in let x = one.few in let y = two.few in omega (arith, all, x, y, both));
     stream = two.stream ∙ (ap (λ p. behind p two.draws) one.stream ∙ sym (behind_append a one.draws two.draws));
     blinds = λ alone g. (
         let parts = row_alone_in_parts (of_job job) u v w one.worked two.worked alone in
         by_more job u v w one.worked two.worked g
         ∙ (ap₂ (λ (xs ys : List (List ℕ)). xs ++ ys) (one.blinds parts.0 g) (two.blinds parts.1 g ∙ ap (λ p. blinds_for g p two.draws) one.stream)
         ∙ sym (for_append g a one.draws two.draws)));
+  }
+
+  -- behind or before what began no relay
+  pub quiet_then : {most : ℕ} {a b : Pads} {u v w : GroupPasses} → BeganNone job u v → Blinds job most a b v w → Blinds job most a b u w
+  quiet_then {most} {a} {b} {u} {v} {w} quiet more = blinds_then {n = 0} {m = most} (blinds_quiet quiet) more (omega arith)
+
+  pub then_quiet : {most : ℕ} {a b : Pads} {u v w : GroupPasses} → Blinds job most a b u v → BeganNone job v w → Blinds job most a b u w
+  then_quiet {most} {a} {b} {u} {v} {w} more quiet = blinds_then {n = most} {m = 0} more (blinds_quiet quiet) (omega arith)
+
+  -- there may be more
+  pub blinds_fewer : {few most : ℕ} {a b : Pads} {u v : GroupPasses} → Blinds job few a b u v → few ≤ most → Blinds job most a b u v
+  blinds_fewer {few} {most} {a} {b} {u} {v} blinds le = record {
+    worked = blinds.worked;
+    draws = blinds.draws;
+    few = (let x = blinds.few in omega (arith, x, le));
+    stream = blinds.stream;
+    blinds = blinds.blinds;
   }

@@ -1,10 +1,10 @@
 -- How a vault ends: its groups are those that it was opened with, and have the archives that came
 -- since.
 use Rattle.std.proofs.Common.{◌≡◌, ◌<◌, ◌≤◌, ◌+◌, ◌++◌, inl, inr, ℕ, zero, suc, List, [], ◌∷◌, length, drop, map, refl, sym, ap, subst, ◌∙◌, arith, append-nil, length-append}
-use Rattle.std.specs.Prelude.{Some, slice_get}
+use Rattle.std.specs.Prelude.{Some, false, filter, slice_get}
 use Rattle.std.proofs.Math.Seq.{drop-append_seam}
 use Rattle.std.proofs.lemmas.Option.{slice_get_within}
-use Rattle.std.proofs.lemmas.Bool.{cases_lt}
+use Rattle.std.proofs.lemmas.Bool.{cases_lt, ne_eqb}
 use Rattle.pot_bytes.specs.declared.rack.Rack.{Rack}
 use Rattle.pot_bytes.proofs.Elements.{element_at}
 use Rattle.pot_index.specs.Index.{IndexView}
@@ -28,7 +28,9 @@ use Rattle.pot_shared.specs.Ready.{GroupPass, GroupPasses, AreReady}
 use Rattle.pot_shared.specs.Catalogs.{IndexPass, IndexPasses, IsIndexReady, IsKept}
 use Rattle.pot_shared.specs.Sharing.{Ends}
 use Rattle.pot_shared.proofs.MemberLemmas.{entries_kept, entries_append}
-use Rattle.pot_shared.specs.Works.{Known, known, gained}
+use Rattle.pot_machine.specs.Logs.{job_of}
+use Rattle.pot_replies.specs.Sessions.{ByNobody}
+use Rattle.pot_shared.specs.Works.{Known, known, gained, of_job}
 use Rattle.pot_shared.specs.Going.{AllOnlyWriters}
 use Rattle.pot_shared.specs.Groups.{IsFirstPass, AreServed, table_read, tables_read}
 use Rattle.pot_shared.proofs.OpenLemmas.{read_of}
@@ -184,3 +186,15 @@ module _ {M : Type 0} (see : M → GroupView) (rack : Rack) (names turn : List T
   -- the log of the index is what its passes gained
   pub closed_story : ended.log ≡ added (view_at old.index 0) (view_at passes 0)
   closed_story = e.index_closed.seen ∙ ((s.went.index 0).seen ∙ ap (λ (v : IndexPass). v.seen ++ added (view_at old.index 0) (view_at passes 0)) s.opened.index_first)
+
+  -- each opening is of no job
+  pub opened_by_nobody : (n : ℕ) (m : M) → slice_get ms n ≡ Some m → ByNobody (entries_of (view_at old.groups n).seen)
+  opened_by_nobody n m q = (let p = first_pass n m q in subst (λ (v : GroupPass). ByNobody (entries_of v.seen)) (sym p.is) p.nobody)
+
+-- so it has no entry of a job
+pub none_opened : (job : ℕ) → 0 < job → (ls : List Logged) → ByNobody (entries_of ls) → filter (of_job job) ls ≡ []
+none_opened job some [] nobody = refl
+none_opened job some (l ∷ ls) nobody =
+    let zero : job_of l.entry ≡ 0 = nobody [] (entries_of ls) l.entry refl in
+    let not : of_job job l ≡ false = ne_eqb (job_of l.entry) job (λ e. absurd (omega (arith, e, zero, some))) in
+    rw not (none_opened job some ls (λ x y e at. nobody (l.entry ∷ x) y e (ap (λ es. l.entry ∷ es) at)))

@@ -1,5 +1,5 @@
 -- The blinds of entries, and the stretches of a stream that they are.
-use Rattle.std.proofs.Common.{◌≡◌, ℕ, zero, suc, Bool, true, false, List, [], ◌∷◌, ◌++◌, refl, ap, sym, ◌∙◌, append_assoc}
+use Rattle.std.proofs.Common.{◌≡◌, ℕ, zero, suc, Bool, true, false, List, [], ◌∷◌, ◌++◌, ◌+◌, refl, ap, sym, ◌∙◌, append_assoc, arith}
 use Rattle.std.specs.Prelude.{Option, None, Some, filter, ◌==◌}
 use Rattle.std.proofs.lemmas.Bool.{eq-eqb}
 use Rattle.pot_machine.specs.declared.entry.Entry.{Entry}
@@ -15,7 +15,7 @@ use Rattle.pot_shared.specs.Members.{entries_of}
 use Rattle.pot_shared.specs.Ready.{GroupPasses}
 use Rattle.pot_shared.specs.MendCalls.{blind_at, drawn, stretches}
 use Rattle.pot_shared.specs.Works.{blind_with, blinds_in, blinds_by, gained, of_job}
-use Rattle.pot_shared.specs.Blinds.{Draw, behind, blinds_for, given_to, is_begin}
+use Rattle.pot_shared.specs.Blinds.{Draw, behind, blinds_for, dropped, given_to, is_begin}
 use Rattle.pot_shared.proofs.WorkLemmas.{own_entries}
 
 -- BLINDS OF ENTRIES
@@ -83,10 +83,19 @@ pub behind_append : (pads : Pads) (xs ys : List Draw) → behind pads (xs ++ ys)
 behind_append pads [] ys = refl
 behind_append pads (x ∷ xs) ys = behind_append (moved pads 1024) xs ys
 
+pub dropped_append : (xs ys : List Draw) → dropped (xs ++ ys) ≡ dropped xs + dropped ys
+dropped_append [] ys = omega arith
+dropped_append (None ∷ xs) ys = (let more = dropped_append xs ys in omega (arith, more))
+dropped_append (Some g ∷ xs) ys = dropped_append xs ys
+
 -- so many for one group, and one that is dropped
 abbrev pub draws_of : ℕ → ℕ → List Draw
 draws_of group zero = None ∷ []
 draws_of group (suc n) = Some group ∷ draws_of group n
+
+pub dropped_draws : (group n : ℕ) → dropped (draws_of group n) ≡ 1
+dropped_draws group zero = refl
+dropped_draws group (suc n) = dropped_draws group n
 
 pub behind_draws : (group : ℕ) (pads : Pads) (n : ℕ) → behind pads (draws_of group n) ≡ drawn pads (suc n)
 behind_draws group pads zero = refl

@@ -1,5 +1,5 @@
 -- Groups that were started, and that end one by one.
-use Rattle.std.proofs.Common.{◌≡◌, ◌≤◌, ◌<◌, ◌+◌, ◌++◌, inl, inr, ℕ, zero, suc, List, [], ◌∷◌, length, take, drop, map, refl, sym, ap, subst, ◌∙◌, arith, append_assoc, append-nil, length-append}
+use Rattle.std.proofs.Common.{◌≡◌, ◌≤◌, ◌<◌, ◌+◌, ◌-◌, ◌^◌, ◌⊎◌, ◌++◌, inl, inr, ℕ, zero, suc, List, [], ◌∷◌, length, take, drop, map, refl, sym, ap, subst, ◌∙◌, arith, append_assoc, append-nil, length-append}
 use Rattle.std.specs.Prelude.{Option, Some, None, All, Contains, slice_get, flat_map}
 use Rattle.std.proofs.Math.Seq.{take-append_seam, drop-append_seam}
 use Rattle.std.proofs.lemmas.Grind.{flat_map-append}
@@ -23,10 +23,15 @@ use Rattle.pot_shelves.specs.Shelves.{numbers_of, shelf_of, given, plain}
 use Rattle.pot_group.proofs.CauseLemmas.{OfOpening, opening_entries}
 use Rattle.pot_group.proofs.Opened.{handed_all}
 use Rattle.pot_shared.specs.declared.member.Taking.{Taking}
-use Rattle.pot_shared.specs.Members.{opened_at, taking_at}
+use Rattle.pot_shared.specs.Members.{mark_at, opened_at, taking_at}
 use Rattle.pot_shared.specs.Coming.{taking_of}
+use Rattle.pot_shelves.specs.Opening.{failures}
+use Rattle.pot_steps.specs.Stripe.{Sound}
+use Rattle.pot_steps.specs.Holdings.{stripe_of}
+use Rattle.pot_outside.specs.Counts.{Rose}
+use Rattle.pot_shared.proofs.OpeningFew.{gone_few}
 use Rattle.pot_shared.proofs.Takings.{taking_is, taking_same}
-use Rattle.pot_shared.specs.Groups.{IsFirstTable, IsOpened, IsStarted, IsEnded, AreStarted, AreMarked, AreEnded, MarksRose, RoseBy, had_by}
+use Rattle.pot_shared.specs.Groups.{IsFirstTable, IsOpened, IsStarted, IsEnded, AreStarted, AreMarked, AreEnded, MarksRose, MarksRoseOften, RoseBy, RoseOftenBy, had_by}
 use Rattle.pot_shared.specs.Hands.{times, AreSame, AreMeant}
 use Rattle.pot_shared.proofs.Lists.{each_more, pair_more, same_flat, flat_snoc, flat_parts, grown, all_at}
 use Rattle.pot_shared.proofs.Times.{times-append}
@@ -120,10 +125,45 @@ meant_held meaning meant ss are n slot has =
 pub serves_there : (t : Table) → IsTable t → (s c : ℕ) → c < width t → Contains (archives_in t) (serving_at t s c)
 serves_there t table s c lc = handed_all t (archives_in t) table refl c (serving_at t s c) lc (names_serving (column_at t c) s)
 
+-- what the numbers meant was sound when the archives were taken
+sound_taken : {A : Type 0} (told : Type 0) (meaning : A → Meaning) (meant : ℕ → Meaning) (number : ℕ) (t : Table) (handed : List (Shelf A)) (g : GroupParts A) (b : Begins told meaning number t handed g)
+    → numbers_of handed ≡ archives_in t → AreMeant meaning meant handed → (s c : ℕ) → Contains (archives_in t) (serving_at t s c) → Sound (stripe_of t (λ n. (meant n).held) s) c → Sound (stripe_of t (plain meaning b.taken).held s) c
+sound_taken told meaning meant number t handed g b e are s c has sound = (
+  sound.0,
+  record {
+    digest = sound.1.digest;
+    live = sound.1.live;
+    held = meant_held meaning meant b.taken.shelves (λ x k. are x (subst (λ ss. Contains ss x) b.shelves k)) (serving_at t s c) s
+        (subst (λ ss. Contains (numbers_of ss) (serving_at t s c)) (sym b.shelves) (subst (λ ns. Contains ns (serving_at t s c)) (sym e) has)) ∙ sound.1.held;
+    right = sound.1.right;
+  },
+)
+
+-- what was counted from the taking to the end of the opening, by the marks
+often_marked : {A : Type 0} (told : Type 0) (meaning : A → Meaning) (number : ℕ) (t : Table) (handed : List (Shelf A)) (g : GroupParts A) (b : Begins told meaning number t handed g) → told → (n k : ℕ)
+    → (((plain meaning b.taken).faults n + k ≤ (plain meaning b.read).faults n) ⊎ (2 ^ 64 - 1 ≤ (plain meaning b.read).faults n)) ⊎ Rose ((plain meaning b.taken).losses n) ((plain meaning b.read).losses n)
+    → MarksRoseOften k (mark_at (view_of meaning g).shelves n) (opened_at (view_of meaning g).shelves n)
+often_marked told meaning number t handed g b tells n k h = elim h [
+  | inl faults ↦ inl (elim faults [ inl more ↦ inl (omega (arith, more, faults_taken, faults_opened)) | inr top ↦ inr (omega (arith, top, faults_opened)) ])
+  | inr losses ↦ inr (elim losses [ inl more ↦ inl (omega (arith, more, losses_taken, losses_opened)) | inr top ↦ inr (omega (arith, top, losses_opened)) ])
+]
+  where
+    faults_taken : (plain meaning g.shelves).faults_taken n ≡ (plain meaning b.taken).faults n
+    faults_taken = ap (λ s. (plain meaning s).faults_taken n) b.marked ∙ (b.opens.stays.keeps.faults_taken n ∙ b.marks.faults n)
+
+    losses_taken : (plain meaning g.shelves).losses_taken n ≡ (plain meaning b.taken).losses n
+    losses_taken = ap (λ s. (plain meaning s).losses_taken n) b.marked ∙ (b.opens.stays.keeps.losses_taken n ∙ b.marks.losses tells n)
+
+    faults_opened : (plain meaning g.shelves).faults_opened n ≡ (plain meaning b.read).faults n
+    faults_opened = b.opened.faults n ∙ ap (λ s. (plain meaning s).faults n) b.marked
+
+    losses_opened : (plain meaning g.shelves).losses_opened n ≡ (plain meaning b.read).losses n
+    losses_opened = b.opened.losses tells n ∙ ap (λ s. (plain meaning s).losses n) b.marked
+
 -- its opening rests on blocks that the numbers meant, and missed none of them but where a count of
--- its archive rose
+-- its archive rose, and so often
 pub opened_of : {A : Type 0} (told : Type 0) (meaning : A → Meaning) (meant : ℕ → Meaning) (number : ℕ) (t : Table) (handed : List (Shelf A)) (g : GroupParts A) → told → Begins told meaning number t handed g
-    → numbers_of handed ≡ archives_in t → AreMeant meaning meant handed → IsTable t → IsOpened meant (RoseBy meant t (opened_at (view_of meaning g).shelves)) t g.log
+    → numbers_of handed ≡ archives_in t → AreMeant meaning meant handed → IsTable t → IsOpened meant (RoseBy meant t (opened_at (view_of meaning g).shelves)) (RoseOftenBy meant t (opened_at (view_of meaning g).shelves)) t g.log
 opened_of told meaning meant number t handed g tells b e are table = record {
   read = b.opens.read;
   gone = b.opens.gone;
@@ -136,17 +176,15 @@ opened_of told meaning meant number t handed g tells b e are table = record {
         has,
         subst (λ (m : Taking). MarksRose m.marks (opened_at (view_of meaning g).shelves (serving_at t s c)))
             (marked_of told meaning meant number t handed g tells b e are (serving_at t s c) has)
-            (b.rose tells s c ls lc is (
-              sound.0,
-              record {
-                digest = sound.1.digest;
-                live = sound.1.live;
-                held = meant_held meaning meant b.taken.shelves (λ x k. are x (subst (λ ss. Contains ss x) b.shelves k)) (serving_at t s c) s
-                    (subst (λ ss. Contains (numbers_of ss) (serving_at t s c)) (sym b.shelves) (subst (λ ns. Contains ns (serving_at t s c)) (sym e) has)) ∙ sound.1.held;
-                right = sound.1.right;
-              },
-            )),
+            (b.rose tells s c ls lc is (sound_taken told meaning meant number t handed g b e are s c has sound)),
       ));
+  few = λ slots missed n has. (
+    has,
+    subst (λ (m : Taking). MarksRoseOften (failures t slots t.stripes n) m.marks (opened_at (view_of meaning g).shelves n)) (marked_of told meaning meant number t handed g tells b e are n has)
+        (often_marked told meaning number t handed g b tells n (failures t slots t.stripes n)
+        (gone_few told t.stripes t g.table g.log (plain meaning b.taken) (plain meaning b.read) b.opens tells slots
+        (λ s c ls lc is. (let m = missed s c ls lc is in (m.0, sound_taken told meaning meant number t handed g b e are s c (serves_there t table s c lc) m.1))) n)),
+  );
   breaks = b.opens.breaks;
   is = b.opens.log;
 }

@@ -1,8 +1,9 @@
 -- What a vault that ended leaves: its records, its tables, and the archives of its groups.
 use Rattle.std.proofs.Common.{◌≡◌, ◌<◌, ◌≤◌, ◌^◌, ◌+◌, ◌++◌, inl, inr, ⊎_elim, ℕ, zero, suc, List, [], ◌∷◌, length, map, refl, sym, ap, subst, ◌∙◌, arith, get_or}
-use Rattle.std.specs.Prelude.{Some, None, All, Contains, option_map, slice_get, slice_index_or, flat_map}
+use Rattle.std.specs.Prelude.{Some, None, All, Contains, filter, option_map, slice_get, slice_index_or, flat_map}
 use Rattle.std.proofs.lemmas.List.{length-map}
-use Rattle.std.proofs.lemmas.List.Elements.{Contains-append_cases}
+use lib.Seq.{drop-nil}
+use Rattle.std.proofs.lemmas.List.Elements.{Contains-append_cases, filter-append}
 use Rattle.std.proofs.lemmas.Option.{slice_get-map, slice_get_within}
 use Rattle.pot_bytes.specs.Digests.{digest_of}
 use Rattle.pot_bytes.specs.Rack.{log_bound}
@@ -38,16 +39,18 @@ use Rattle.pot_shared.specs.Ready.{GroupPass, GroupPasses, AreReady}
 use Rattle.pot_shared.specs.Catalogs.{IndexPasses, IsIndexReady, records_in}
 use Rattle.pot_shared.specs.Seen.{SeesPut}
 use Rattle.pot_shared.specs.Sharing.{Ends}
-use Rattle.pot_shared.specs.Works.{Known, known, gained, section_of}
+use Rattle.pot_shared.specs.Works.{Known, known, blinds_by, blinds_in, gained, of_job, section_of}
 use Rattle.pot_shared.specs.Going.{AllOnlyWriters}
 use Rattle.pot_shared.specs.Hands.{times, AreApart}
 use Rattle.pot_shared.proofs.Times.{times-append}
 use Rattle.pot_shared.specs.Coming.{AreMarkedBy, came_in, marks_of, taking_of}
-use Rattle.pot_shared.specs.Groups.{AreServed, AreEnded, AreLow, AreTakenAt, HasMarks, HasTaken, HaveCome, IsOpened, MarksRose, RoseBy, had_by, tables_read, records_read}
-use Rattle.pot_shared.specs.Leaving.{AreOpened, ArePut, AreWithin, IsInHand, IsPutAt, RoseInHand, LeavesRecords, LeavesLogs, LeaveGroups, still}
+use Rattle.pot_shared.specs.Groups.{AreServed, AreEnded, AreLow, AreTakenAt, HasMarks, HasTaken, HaveCome, IsOpened, MarksRose, MarksRoseOften, RoseBy, RoseOftenBy, had_by, tables_read, records_read}
+use Rattle.pot_shared.specs.Leaving.{AreOpened, ArePut, AreWithin, IsInHand, IsPutAt, RoseInHand, RoseOftenInHand, LeavesRecords, LeavesLogs, LeaveGroups, still}
 use Rattle.pot_shared.proofs.Lists.{same_at, flat_contains}
 use Rattle.pot_shared.proofs.GroupLemmas.{find_shelf}
-use Rattle.pot_shared.proofs.CloseLemmas.{closed_firsts, closed_kept, closed_log, closed_story, its_came, members_of, opened_none, sole_all}
+use Rattle.pot_rows.proofs.RowLemmas.{at_past}
+use Rattle.pot_shared.specs.Blinded.{HaveBlinds, job_blinds}
+use Rattle.pot_shared.proofs.CloseLemmas.{closed_firsts, closed_kept, closed_log, closed_story, its_came, members_of, none_opened, opened_by_nobody, opened_none, sole_all}
 use Rattle.pot_shared.proofs.ComingLemmas.{came_marked, came_of, few_archives}
 use Rattle.pot_shared.proofs.LeavingWords.{leave_groups, opened_as}
 use Rattle.pot_shared.proofs.MemberLemmas.{entries_all, entries_append}
@@ -249,33 +252,83 @@ module _ {A M : Type 0} (told : Type 0) (meaning : A → Meaning) (parts : M →
       risen (inr r) = inr (rose_more (meant k).losses (marks k).losses (meaning x.0.archive).losses r
           (let a = ap (λ (y : Marks). y.losses) at in let b = settled.opened_losses t k in let e = x.3.losses in omega (arith, a, b, e)))
 
+  -- and as often as it did
+  often_in_hand : (n : ℕ) (m : M) → slice_get ms n ≡ Some m → told → (marks : ℕ → Marks) → map (opened_at (plain meaning (parts m).shelves)) (archives_in (parts m).first) ≡ map marks (archives_in (parts m).first)
+      → (k often : ℕ) → RoseOftenBy meant (parts m).first marks k often → RoseOftenInHand meaning hand meant k often
+  often_in_hand n m q t marks are k often (has, rose) = (x.0, x.1, x.2, risen rose)
+    where
+      x : IsInHand meaning hand (plain meaning (parts m).shelves) k
+      x = handed n m q k (contains_front (archives_in (parts m).first) (arrivals (parts m).log) k has)
+
+      at : opened_at (plain meaning (parts m).shelves) k ≡ marks k
+      at = same_at (opened_at (plain meaning (parts m).shelves)) marks (archives_in (parts m).first) k are has
+
+      settled : IsSettled told (view_of meaning (parts m))
+      settled = (all n m q).settled
+
+      faults : (marks k).faults ≤ (meaning x.0.archive).faults
+      faults = (let a = ap (λ (y : Marks). y.faults) at in let b = settled.opened_faults k in let e = x.3.faults in omega (arith, a, b, e))
+
+      risen : MarksRoseOften often (marks_of (meant k)) (marks k) → MarksRoseOften often (marks_of (meant k)) (marks_of (meaning x.0.archive))
+      risen (inl (inl more)) = inl (inl (omega (arith, more, faults)))
+      risen (inl (inr top)) = inl (inr (omega (arith, top, faults)))
+      risen (inr r) = inr (rose_more (meant k).losses (marks k).losses (meaning x.0.archive).losses r
+          (let a = ap (λ (y : Marks). y.losses) at in let b = settled.opened_losses t k in let e = x.3.losses in omega (arith, a, b, e)))
+
   -- what stood in the logs at the start is what the openings logged
-  pub closed_opened : told → AreOpened meant (RoseInHand meaning hand meant) (tables_read groups) (section_of old (known groups passes))
+  pub closed_opened : told → AreOpened meant (RoseInHand meaning hand meant) (RoseOftenInHand meaning hand meant) (tables_read groups) (section_of old (known groups passes))
   closed_opened t g u q =
       let m = element_of_map (λ m. (parts m).first) ms g u (ap (λ ts. slice_get ts g) (closed_firsts (λ m. view_of meaning (parts m)) rack names groups (view_at passes 0) ms ended ready e) ∙ q) in
       let o = taken t g (origin_of (view_of meaning (parts m.0))) (origin_is g m.0 m.1) in
-      subst (λ v. IsOpened meant (RoseInHand meaning hand meant) v (entries_of (view_at old.groups g).seen)) m.2
-      (opened_as meant (RoseBy meant (parts m.0).first o.1.marks) (RoseInHand meaning hand meant) (parts m.0).first (entries_of (view_at old.groups g).seen)
-      (opened_in_hand g m.0 m.1 t o.1.marks o.1.are) o.1.opened)
+      subst (λ v. IsOpened meant (RoseInHand meaning hand meant) (RoseOftenInHand meaning hand meant) v (entries_of (view_at old.groups g).seen)) m.2
+      (opened_as meant (RoseBy meant (parts m.0).first o.1.marks) (RoseInHand meaning hand meant) (RoseOftenBy meant (parts m.0).first o.1.marks) (RoseOftenInHand meaning hand meant) (parts m.0).first (entries_of (view_at old.groups g).seen)
+      (opened_in_hand g m.0 m.1 t o.1.marks o.1.are) (often_in_hand g m.0 m.1 t o.1.marks o.1.are) o.1.opened)
+
+  -- the blinds that a job's relays have in its log are those that the passes saw
+  blinds_are : (n : ℕ) (m : M) → slice_get ms n ≡ Some m → (job : ℕ) → 0 < job → job_blinds job (view_of meaning (parts m)) ≡ blinds_by job old.groups groups n
+  blinds_are n m q job some =
+      ap (λ ls. blinds_in (filter (of_job job) ls)) (closed_kept (λ x. view_of meaning (parts x)) rack names turn groups passes ms ended ready index_ready old s e n m q)
+      ∙ (ap blinds_in (filter-append (of_job job) (view_at old.groups n).seen (added (view_at old.groups n) (view_at groups n))
+      ∙ ap (λ ls. ls ++ filter (of_job job) (added (view_at old.groups n) (view_at groups n)))
+      (none_opened job some (view_at old.groups n).seen (opened_by_nobody (λ x. view_of meaning (parts x)) rack names turn groups passes ms ended ready index_ready old s e n m q))))
 
   pub closed_groups : (logs : List (List Entry)) (tables : List Table) → logs ≡ map (λ m. (parts m).log) ms → tables ≡ map (λ m. (parts m).table) ms
-      → LeaveGroups told meant (IsInHand meaning hand) (tables_read groups) logs (map still tables)
+      → (left : LeaveGroups told meant (IsInHand meaning hand) (tables_read groups) logs (map still tables)) × ((job : ℕ) → 0 < job → HaveBlinds left job (blinds_by job old.groups groups))
   closed_groups logs tables el et =
-      subst (λ ts. LeaveGroups told meant (IsInHand meaning hand) ts logs (map still tables)) (closed_firsts (λ m. view_of meaning (parts m)) rack names groups (view_at passes 0) ms ended ready e)
-      (subst (λ ls. LeaveGroups told meant (IsInHand meaning hand) (map (λ m. (parts m).first) ms) ls (map still tables)) (sym el)
-      (subst (λ ts. LeaveGroups told meant (IsInHand meaning hand) (map (λ m. (parts m).first) ms) (map (λ m. (parts m).log) ms) (map still ts)) (sym et)
-      (leave_groups told meant (IsInHand meaning hand) (λ m. view_of meaning (parts m)) ms (λ n m q. record {
-        view = view_of meaning (parts m);
-        first = refl;
-        is_log = refl;
-        is = refl;
-        settled = (all n m q).settled;
-        execution = (all n m q).execution;
-        marked = marked n m q;
-        taken = took n m q;
-        within = within n m q;
-        archives = handed n m q;
-      }))))
+      subst (λ ts. Left ts logs (map still tables)) (closed_firsts (λ m. view_of meaning (parts m)) rack names groups (view_at passes 0) ms ended ready e)
+      (subst (λ ls. Left (map (λ m. (parts m).first) ms) ls (map still tables)) (sym el)
+      (subst (λ ts. Left (map (λ m. (parts m).first) ms) (map (λ m. (parts m).log) ms) (map still ts)) (sym et) (
+        left.0,
+        λ job some. record {
+          are = λ g t u log is_read is_written is_log. left.1 g t u log is_read is_written is_log job some;
+          none = λ g le. ap (λ (v : GroupPass). blinds_in (filter (of_job job) (added (view_at old.groups g) v)))
+              (at_past names groups g ready.of (let a = members_of (λ x. view_of meaning (parts x)) rack names turn groups passes ms ended ready index_ready old s e in let b = length-map ms (λ m. (parts m).first) in
+              let c = ap length s.stays.groups.names in let d = ap length ready.of.0 in omega (arith, le, a, b, c, d)))
+              ∙ ap (λ ls. blinds_in (filter (of_job job) ls)) (drop-nil (length (view_at old.groups g).seen));
+        },
+      )))
+    where
+      Left : List Table → List (List Entry) → List Table → Type 0
+      Left read ls written = (l : LeaveGroups told meant (IsInHand meaning hand) read ls written) × ((job : ℕ) → 0 < job → HaveBlinds l job (blinds_by job old.groups groups))
+
+      left : (l : LeaveGroups told meant (IsInHand meaning hand) (map (λ m. (parts m).first) ms) (map (λ m. (parts m).log) ms) (map still (map (λ m. (parts m).table) ms)))
+          × ((g : ℕ) (t u : Table) (log : List Entry) (a : slice_get (map (λ m. (parts m).first) ms) g ≡ Some t) (b : slice_get (map still (map (λ m. (parts m).table) ms)) g ≡ Some u)
+          (c : slice_get (map (λ m. (parts m).log) ms) g ≡ Some log) (job : ℕ) → 0 < job → job_blinds job (l.each g t u log a b c).view ≡ blinds_by job old.groups groups g)
+      left = leave_groups told meant (IsInHand meaning hand) (λ m. view_of meaning (parts m)) ms (λ n g. (job : ℕ) → 0 < job → job_blinds job g ≡ blinds_by job old.groups groups n) (λ n m q. (
+        record {
+          view = view_of meaning (parts m);
+          first = refl;
+          is_log = refl;
+          is = refl;
+          settled = (all n m q).settled;
+          execution = (all n m q).execution;
+          marked = marked n m q;
+          taken = took n m q;
+          within = within n m q;
+          archives = handed n m q;
+        },
+        blinds_are n m q,
+      ))
 
 -- each log has no more entries than an image may have
 few_logs : {M : Type 0} (see : M → GroupView) (ms : List M) → ((n : ℕ) (m : M) → slice_get ms n ≡ Some m → length (see m).log ≤ 262144) → (logs : List (List Entry)) → logs ≡ map (λ m. (see m).log) ms

@@ -18,6 +18,7 @@ pub mod FlightLemmas
 pub mod Times
 pub mod Lists
 pub mod Results
+pub mod OpeningFew
 pub mod GroupLemmas
 pub mod LostLemmas
 pub mod OpenLemmas

@@ -26,7 +26,7 @@ use Rattle.pot_shared.specs.Works.{Known}
 use Rattle.pot_replies.specs.Sessions.{ByNobody}
 use Rattle.pot_shared.proofs.MemberLemmas.{entries_kept, same_on}
 use Rattle.pot_shared.specs.Coming.{taking_of}
-use Rattle.pot_shared.specs.Groups.{AreStarted, AreOfRack, AreTakenFrom, AreFirstPasses, AreTakenAt, IsFirstPass, IsFirstTable, IsOpened, IsOpenedAt, RoseBy, had_by, table_read, tables_read}
+use Rattle.pot_shared.specs.Groups.{AreStarted, AreOfRack, AreTakenFrom, AreFirstPasses, AreTakenAt, IsFirstPass, IsFirstTable, IsOpened, IsOpenedAt, RoseBy, RoseOftenBy, had_by, table_read, tables_read}
 use Rattle.pot_shared.proofs.Lists.{same_maps, same_flat, all_at_place}
 
 -- the first tables are those that the groups were started over
@@ -106,7 +106,7 @@ taken_at {M} see ms names row meant first of long marked g o e = elim (cases_lt 
       subst (λ (p : GroupOrigin). IsOpenedAt meant p (entries_of (view_at row g).seen)) same (record {
         marks = opened_at (see m).shelves;
         are = refl;
-        opened = subst (λ l. IsOpened meant (RoseBy meant (see m).first (opened_at (see m).shelves)) (see m).first l)
+        opened = subst (λ l. IsOpened meant (RoseBy meant (see m).first (opened_at (see m).shelves)) (RoseOftenBy meant (see m).first (opened_at (see m).shelves)) (see m).first l)
             (sym (ap (λ (v : GroupPass). entries_of v.seen) (first g m q) ∙ entries_kept (see m))) (marked g m q).opened;
       }),
     )

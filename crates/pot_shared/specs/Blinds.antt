@@ -1,7 +1,7 @@
 -- Where the blinds of the relays come from that a job begins: from the job's stream, one behind the
 -- other, and each once.
-use Rattle.std.specs.Prelude.{◌≡◌, ◌==◌, ◌++◌, ℕ, Bool, true, false, List, [], ◌∷◌, Option, Some}
-use Rattle.std.specs.Prelude.{None, filter, if◌then◌else◌}
+use Rattle.std.specs.Prelude.{◌≡◌, ◌≤◌, ◌==◌, ◌++◌, ℕ, suc, Bool, true, false, List, [], ◌∷◌}
+use Rattle.std.specs.Prelude.{Option, Some, None, filter, if◌then◌else◌}
 use Rattle.pot_machine.specs.declared.entry.Entry.{Entry}
 use Rattle.pot_machine.specs.declared.entry.Entry.TheVariants as entry
 use Rattle.pot_machine.specs.Logs.{own}
@@ -24,6 +24,17 @@ pub record BeganNone (job : ℕ) (old new : GroupPasses) : Type 0 where
 abbrev pub Draw : Type 0
 Draw = Option ℕ
 
+-- how many went to none
+abbrev pub dropped : List Draw → ℕ
+dropped [] = 0
+dropped (None ∷ draws) = suc (dropped draws)
+dropped (Some group ∷ draws) = dropped draws
+
+-- A job drops one blind at most at each place that it mends: a record has at most 1,024 * 8 * 16
+-- places, and a group at most 4,096 * 18 slots.
+abbrev pub most_dropped : ℕ
+most_dropped = 131072
+
 -- the blind, if it went to this group
 abbrev pub given_to : ℕ → Draw → List ℕ → List (List ℕ)
 given_to g None blind = []
@@ -41,11 +52,19 @@ behind pads [] = pads
 behind pads (draw ∷ draws) = behind (moved pads 1024) draws
 
 -- The blinds of the relays that the job began are stretches of 1,024 bytes of the stream, in their
--- order, each for one relay or for none; and the stream stands behind the last one. That is so
--- where nobody else logged an entry of the job.
-pub record Blinds (job : ℕ) (pads after : Pads) (old new : GroupPasses) : Type 0 where
+-- order, each for one relay or for none, which so many are at most; and the stream stands behind
+-- the last one. That is so where nobody else logged an entry of the job.
+pub record Blinds (job most : ℕ) (pads after : Pads) (old new : GroupPasses) : Type 0 where
   pub worked : RowWroteOnlyFor (of_job job) old new
   pub draws : List Draw
+  pub few : dropped draws ≤ most
   pub stream : after ≡ behind pads draws
   pub blinds : RowOnlyWriterOf (of_job job) old new
       → (g : ℕ) → blinds_by job old new g ≡ blinds_for g pads draws
+
+-- The blinds of a job's relays in all groups, each group's in order. They are stretches of 1,024
+-- bytes of the stream, one behind the other, each for one relay or for none; few are for none.
+pub record AreDrawn (pads : Pads) (its : ℕ → List (List ℕ)) : Type 0 where
+  pub draws : List Draw
+  pub few : dropped draws ≤ most_dropped
+  pub are : (g : ℕ) → its g ≡ blinds_for g pads draws

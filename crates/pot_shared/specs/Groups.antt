@@ -1,5 +1,6 @@
 -- The groups of a vault, from their start to their end.
-use Rattle.std.specs.Prelude.{◌≡◌, ◌⊎◌, ◌<◌, ◌+◌, ◌++◌, ℕ, Bool, true, List, [], ◌∷◌, Option, Some}
+use Rattle.std.specs.Prelude.{◌≡◌, ◌⊎◌, ◌<◌, ◌≤◌, ◌+◌, ◌-◌, ◌^◌, ◌++◌, ℕ, Bool, true, List, []}
+use Rattle.std.specs.Prelude.{◌∷◌, Option, Some}
 use Rattle.std.specs.Prelude.{None, Contains, length, map, slice_get, flat_map}
 use Rattle.pot_outside.specs.Archives.{Meaning}
 use Rattle.pot_outside.specs.Counts.{Rose}
@@ -14,6 +15,7 @@ use Rattle.pot_index.specs.declared.record.Record.{Record}
 use Rattle.pot_group.specs.Arrivals.{arrivals, HasArrived}
 use Rattle.pot_group.specs.Group.{GroupView, IsSettled}
 use Rattle.pot_execution.specs.Execution.{HasExecution}
+use Rattle.pot_shelves.specs.Opening.{failures}
 use Rattle.pot_shelves.specs.Shelves.{Shelves}
 use Rattle.pot_turn.specs.Views.{first_view, cut_view}
 use Rattle.pot_worked.specs.WroteOnlyFor.{added}
@@ -86,16 +88,39 @@ HasTaken meant g =
 abbrev pub MarksRose : Marks → Marks → Type 0
 MarksRose before now = Rose before.faults now.faults ⊎ Rose before.losses now.losses
 
+-- a count of faults is greater by so many at least, or stands at its last value; or a count of
+-- losses is greater than it was, or stands at its last value
+abbrev pub MarksRoseOften : ℕ → Marks → Marks → Type 0
+MarksRoseOften k before now =
+    ((before.faults + k ≤ now.faults) ⊎ (2 ^ 64 - 1 ≤ now.faults)) ⊎ Rose before.losses now.losses
+
 -- an archive of a table whose counts rose above what its number meant, by these marks
 abbrev pub RoseBy : (ℕ → Meaning) → Table → (ℕ → Marks) → ℕ → Type 0
 RoseBy meant t marks n = Contains (archives_in t) n × MarksRose (marks_of (meant n)) (marks n)
 
+-- and so often
+abbrev pub RoseOftenBy : (ℕ → Meaning) → Table → (ℕ → Marks) → ℕ → ℕ → Type 0
+RoseOftenBy meant t marks n k =
+    Contains (archives_in t) n × MarksRoseOften k (marks_of (meant n)) (marks n)
+
+-- how many of these slots an archive serves
+abbrev pub many_served : Table → (ℕ → ℕ → Bool) → ℕ → ℕ
+many_served t slots n = failures t slots t.stripes n
+
+-- these slots were called Gone, although the archive of each was meant to hold its block
+abbrev pub AreMissed : (ℕ → Meaning) → Table → (ℕ → ℕ → Bool) → (ℕ → ℕ → Bool) → Type 0
+AreMissed meant t gone slots =
+    (s c : ℕ) → s < t.stripes → c < width t → slots s c ≡ true
+    → (gone s c ≡ true) × Sound (stripe_of t (λ n. (meant n).held) s) c
+
 -- What the opening of a table logged: each block that it found is one that was meant. A Live
 -- slot of which it found no block of its digest is Gone, and no other is; where there was meant its
--- block, only if a count of the archive that serves it rose, of which `Rises` tells by number. And
--- by the blocks that it found it says of each stripe whether it fits.
-pub record IsOpened (meant : ℕ → Meaning) (Rises : ℕ → Type 0) (t : Table) (log : List Entry)
-    : Type 0 where
+-- block, only if a count of the archive that serves it rose, of which `Rises` tells by number. Of
+-- one archive no more slots are Gone so than its count of faults rose, unless its count of losses
+-- did, of which `Often` tells by number and how many. And by the blocks that it found it says of
+-- each stripe whether it fits.
+pub record IsOpened (meant : ℕ → Meaning) (Rises : ℕ → Type 0) (Often : ℕ → ℕ → Type 0) (t : Table)
+    (log : List Entry) : Type 0 where
   pub read : ℕ → ℕ → Option (List ℕ)
   pub gone : ℕ → ℕ → Bool
   pub broke : ℕ → ℕ → Bool
@@ -104,6 +129,8 @@ pub record IsOpened (meant : ℕ → Meaning) (Rises : ℕ → Type 0) (t : Tabl
   pub finds : (s : ℕ) → s < t.stripes → FindsGone (width t) (as_read t read s) (gone s)
   pub missed : (s c : ℕ) → s < t.stripes → c < width t → gone s c ≡ true
       → Sound (stripe_of t (λ n. (meant n).held) s) c → Rises (serving_at t s c)
+  pub few : (slots : ℕ → ℕ → Bool) → AreMissed meant t gone slots → (n : ℕ)
+      → Contains (archives_in t) n → Often n (many_served t slots n)
   pub breaks : (s : ℕ) → s < t.stripes
       → Breaks t.data_columns t.parity (as_read t read s) (broke s)
       ⊎ Spared t.data_columns t.parity (as_read t read s) (broke s)
@@ -112,7 +139,8 @@ pub record IsOpened (meant : ℕ → Meaning) (Rises : ℕ → Type 0) (t : Tabl
 -- a group was started over archives as their numbers meant them
 pub record IsTakenFrom (meant : ℕ → Meaning) (g : GroupView) : Type 0 where
   pub marked : AreMarked meant g.first g.shelves
-  pub opened : IsOpened meant (RoseBy meant g.first (opened_at g.shelves)) g.first g.log
+  pub opened : IsOpened meant (RoseBy meant g.first (opened_at g.shelves))
+      (RoseOftenBy meant g.first (opened_at g.shelves)) g.first g.log
 
 -- and so was each
 abbrev pub AreTakenFrom : {M : Type 0} → (ℕ → Meaning) → (M → GroupView) → List M → Type 0
@@ -137,7 +165,8 @@ records_read row = records_in (view_at row 0).origin
 pub record IsOpenedAt (meant : ℕ → Meaning) (o : GroupOrigin) (log : List Entry) : Type 0 where
   pub marks : ℕ → Marks
   pub are : o.opened ≡ map marks (archives_in o.first)
-  pub opened : IsOpened meant (RoseBy meant o.first marks) o.first log
+  pub opened : IsOpened meant (RoseBy meant o.first marks) (RoseOftenBy meant o.first marks) o.first
+      log
 
 -- The archives of each group were taken as the numbers meant, and what its pass has seen is what
 -- the opening logged over them.

@@ -27,7 +27,8 @@ use Rattle.pot_replies.specs.Sections.{Section}
 use Rattle.pot_shared.specs.Catalogs.{AreFirstSplits, Publishes}
 use Rattle.pot_shared.specs.Coming.{marks_of}
 use Rattle.pot_shared.specs.Going.{AllOnlyWriters}
-use Rattle.pot_shared.specs.Groups.{HasMarks, HasTaken, IsOpened, MarksRose, had_by, records_read}
+use Rattle.pot_shared.specs.Groups.{HasMarks, HasTaken, IsOpened, MarksRose, MarksRoseOften}
+use Rattle.pot_shared.specs.Groups.{had_by, records_read}
 use Rattle.pot_shared.specs.Works.{Known, section_of}
 
 -- each log has fewer than 2^32 entries
@@ -57,6 +58,13 @@ abbrev pub RoseInHand
 RoseInHand {A} meaning hand meant n =
     (x : Shelf A) × Contains hand x × (x.number ≡ n)
     × MarksRose (marks_of (meant n)) (marks_of (meaning x.archive))
+
+-- and its counts so often
+abbrev pub RoseOftenInHand
+    : {A : Type 0} → (A → Meaning) → List (Shelf A) → (ℕ → Meaning) → ℕ → ℕ → Type 0
+RoseOftenInHand {A} meaning hand meant n k =
+    (x : Shelf A) × Contains hand x × (x.number ≡ n)
+    × MarksRoseOften k (marks_of (meant n)) (marks_of (meaning x.archive))
 
 -- The frame of an archive of a group, which began with this table and has this log. Each block that
 -- is seen of it, in whatever slot, its number meant to stand there, or an entry of the log put it
@@ -127,9 +135,10 @@ AreLogs logs w =
     (g : ℕ) (log : List Entry) → slice_get logs g ≡ Some log → log ≡ w.before g ++ w.added g
 
 -- what stood in each log before a section is what the opening of its table logged
-abbrev pub AreOpened : (ℕ → Meaning) → (ℕ → Type 0) → List Table → Section → Type 0
-AreOpened meant Rises read w =
-    (g : ℕ) (t : Table) → slice_get read g ≡ Some t → IsOpened meant Rises t (w.before g)
+abbrev pub AreOpened : (ℕ → Meaning) → (ℕ → Type 0) → (ℕ → ℕ → Type 0) → List Table → Section
+    → Type 0
+AreOpened meant Rises Often read w =
+    (g : ℕ) (t : Table) → slice_get read g ≡ Some t → IsOpened meant Rises Often t (w.before g)
 
 -- such a Put at this place stands in the log of its group
 abbrev pub IsPutAt : List (List Entry) → Place → Type 0

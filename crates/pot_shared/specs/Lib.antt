@@ -20,3 +20,4 @@ pub mod Groups
 pub mod Remains
 pub mod Opening
 pub mod Leaving
+pub mod Blinded

@@ -81,10 +81,11 @@ impl<A: Archive> Vault<A> {
     ghost use Rattle.pot_shared.specs.Groups.{tables_read};
     ghost use Rattle.pot_shared.specs.Hands.{AreApart, AreSame};
     ghost use Rattle.pot_shared.specs.Leaving.{AreOpened, AreShort, IsInHand, LeaveGroups};
-    ghost use Rattle.pot_shared.specs.Leaving.{LeavesLogs, RoseInHand, still};
+    ghost use Rattle.pot_shared.specs.Leaving.{LeavesLogs, RoseInHand, RoseOftenInHand, still};
     ghost use Rattle.pot_shared.specs.Opening.{CanEnd};
     ghost use Rattle.pot_shared.specs.Remains.{HasSpace, IsBare};
-    ghost use Rattle.pot_shared.specs.Works.{Known, section_of};
+    ghost use Rattle.pot_shared.specs.Blinded.{HaveBlinds};
+    ghost use Rattle.pot_shared.specs.Works.{Known, blinds_by, section_of};
 
     /// Ends a vault that was opened, and takes no memory. The tables and logs of its groups, in
     /// their order, the records and the log of its index, and all archives remain, those that came
@@ -101,14 +102,17 @@ impl<A: Archive> Vault<A> {
             → AreSame (numbers_of result.hand.items) numbers }
         ensures groups { (old : Known) (meant : ℕ → Meaning)
             → IsServedFrom (IsTrue A.account.tells) meant old passes
-            → LeaveGroups (IsTrue A.account.tells) meant
+            → (left : LeaveGroups (IsTrue A.account.tells) meant
             (IsInHand A.account.meaning result.hand.items) (tables_read passes.groups)
-            (map (λ v. v.items) result.logs.items) (map still result.tables.items) }
+            (map (λ v. v.items) result.logs.items) (map still result.tables.items))
+            × ((job : ℕ) → 0 < job
+            → HaveBlinds left job (blinds_by job old.groups passes.groups)) }
         ensures opened { (old : Known) (meant : ℕ → Meaning)
             → IsServedFrom (IsTrue A.account.tells) meant old passes
             → IsTrue A.account.tells
             → AreOpened meant (RoseInHand A.account.meaning result.hand.items meant)
-            (tables_read passes.groups) (section_of old passes) }
+            (RoseOftenInHand A.account.meaning result.hand.items meant) (tables_read passes.groups)
+            (section_of old passes) }
         ensures logs { (old : Known) → AreServed old passes
             → LeavesLogs old passes self.rack (map (λ v. v.items) result.logs.items)
             result.index_log.items result.records.items }

@@ -10,6 +10,7 @@ ghost use Rattle.pot_group.specs.Group.{view_of};
 ghost use Rattle.pot_shelves.specs.Shelves.{numbers_of};
 ghost use Rattle.pot_shared.specs.Groups.{AreMarked, AreOfRack, AreStarted, AreTakenAt};
 ghost use Rattle.pot_shared.specs.Groups.{AreTakenFrom, IsFirstTable, IsOpened, IsStarted, RoseBy};
+ghost use Rattle.pot_shared.specs.Groups.{RoseOftenBy};
 ghost use Rattle.pot_shared.specs.Groups.{had_by};
 ghost use Rattle.pot_shared.specs.Hands.{AreAmong, AreApart, AreMeant, AreMeantButLost, AreSame};
 ghost use Rattle.pot_shared.specs.Members.{opened_at};
@@ -54,7 +55,8 @@ fn start_group<A: Archive>(
     ensures opened { (meant : ℕ → Meaning) → IsTrue A.account.tells
         → AreMeant A.account.meaning meant hand.old.items
         → IfOk result (λ m. let g = view_of A.account.meaning m.group in
-        IsOpened meant (RoseBy meant table (opened_at g.shelves)) table g.log) }
+        IsOpened meant (RoseBy meant table (opened_at g.shelves))
+        (RoseOftenBy meant table (opened_at g.shelves)) table g.log) }
     ensures lost { (meant : ℕ → Meaning) → IsTrue A.account.tells
         → AreApart (numbers_of hand.old.items) → AreMeant A.account.meaning meant hand.old.items
         → IfOk result (λ m. AreMeantButLost A.account.meaning meant m.group.shelves.shelves) }

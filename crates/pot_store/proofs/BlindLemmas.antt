@@ -34,7 +34,7 @@ use Rattle.pot_store.specs.Renewals.{PutsSplit, StopsAt}
 use Rattle.pot_store.specs.Visits.{Came, LooksAgain, LooksOnce, look_logs}
 use Rattle.pot_store.specs.Visits as came
 use Rattle.pot_shared.specs.Works.{gained, of_job}
-use Rattle.pot_shared.proofs.BlindLemmas.{blinds_mends, blinds_quiet, blinds_then, none_adds, none_of_two}
+use Rattle.pot_shared.proofs.BlindLemmas.{blinds_mends, none_adds, none_of_two, then_quiet}
 
 -- NO RELAY BEGAN
 
@@ -52,27 +52,27 @@ none_look job p c old new look = none_adds job p.group (look_logs job p c) old n
 
 -- PUTS
 
-gone_begins : (job s : ℕ) (gone : Option ℕ) → filter is_begin (gone_entries job s gone) ≡ []
+pub gone_begins : (job s : ℕ) (gone : Option ℕ) → filter is_begin (gone_entries job s gone) ≡ []
 gone_begins job s None = refl
 gone_begins job s (Some c) = refl
 
-skips_begin : (job : ℕ) (passed : List Passed) → filter is_begin (skips job passed) ≡ []
+pub skips_begin : (job : ℕ) (passed : List Passed) → filter is_begin (skips job passed) ≡ []
 skips_begin job [] = refl
 skips_begin job (x ∷ xs) = none_of_two (gone_entries job x.stripe x.gone) (entry.Skip job x.stripe ∷ skips job xs) (gone_begins job x.stripe x.gone) (skips_begin job xs)
 
-one_begins : (e : Entry) → is_begin e ≡ false → filter is_begin (e ∷ []) ≡ []
+pub one_begins : (e : Entry) → is_begin e ≡ false → filter is_begin (e ∷ []) ≡ []
 one_begins e is = rw is refl
 
 kept_begins : (job s c : ℕ) (d : Digest) (e : Entry) → IsKeptPut job s c d e → is_begin e ≡ false
 kept_begins job s c d e (inl (p, is)) = ap is_begin is
 kept_begins job s c d e (inr (p, q, is)) = ap is_begin is
 
-unkept_begins : (columns job : ℕ) (d : Digest) (column : ℕ) (e : Entry) → IsUnkept columns job d column e → is_begin e ≡ false
+pub unkept_begins : (columns job : ℕ) (d : Digest) (column : ℕ) (e : Entry) → IsUnkept columns job d column e → is_begin e ≡ false
 unkept_begins columns job d column e (inl (s, c, p, is, at)) = ap is_begin is
 unkept_begins columns job d column e (inr (inl (s, c, p, q, k, is, at))) = ap is_begin is
 unkept_begins columns job d column e (inr (inr (s, c, p, q, is, at))) = ap is_begin is
 
-puts_begin : (job : ℕ) (placed : List Placed) (entries : List Entry) → Puts job placed entries → filter is_begin entries ≡ []
+pub puts_begin : (job : ℕ) (placed : List Placed) (entries : List Entry) → Puts job placed entries → filter is_begin entries ≡ []
 puts_begin job [] entries is = ap (λ es. filter is_begin es) is
 puts_begin job (x ∷ xs) entries (passed, e, rest, kept, are, more) =
     ap (λ es. filter is_begin es) are
@@ -134,6 +134,6 @@ module _ (rack : Rack) (geometry : Geometry) (job : ℕ) where
 -- a place was mended, and looked at once more
 module _ {told : Type 0} {job : ℕ} where
   pub blinds_again : {p : Place} {c : Came} {pads after : Pads} {result : Mending} {old mid new : GroupPasses} → MendsPlace told job p pads after result old mid → LooksAgain job p c mid new
-      → Blinds job pads after old new
+      → Blinds job 1 pads after old new
   blinds_again {p} {c} {pads} {after} {result} {old} {mid} {new} mends again =
-      blinds_then (blinds_mends mends) (blinds_quiet (none_look job p again.first mid new again.looks))
+      then_quiet (blinds_mends mends) (none_look job p again.first mid new again.looks)

@@ -7,7 +7,7 @@ ghost use Rattle.pot_shared.specs.Callers.{AreReadyFor, HasAllGroups};
 ghost use Rattle.pot_shared.specs.Connections.{InGroups, TellsIfOnlyWriter, WroteForItsJob, job_of, knows, rack_of};
 ghost use Rattle.pot_store.specs.Reads.{FileRead, RecordRead};
 ghost use Rattle.pot_store.specs.Fetches.{AreFilled, FetchRow};
-ghost use Rattle.pot_shared.specs.Blinds.{Blinds};
+ghost use Rattle.pot_shared.specs.Blinds.{Blinds, most_dropped};
 
 use crate::fragments::read_piece;
 use crate::rooms::Rooms;
@@ -73,7 +73,7 @@ pub fn fetch_file<A: Archive, R: Wait>(
     ensures worked { WroteForItsJob connection.old connection.new }
     ensures says { TellsIfOnlyWriter (λ b s w. s.mends ≡ true → AreFilled s
         → FetchRow s b.job name.now result w) connection.old connection.new }
-    ensures blinds { Blinds (job_of connection.old) pads.old pads.new
+    ensures blinds { Blinds (job_of connection.old) most_dropped pads.old pads.new
         (knows connection.old).groups (knows connection.new).groups }
 {
     match connection.find(name) {
@@ -92,7 +92,7 @@ pub(crate) fn read_kept<A: Archive, R: Wait>(
 ) -> Result<Vec<u8>, FetchFault>
     requires { FitsRack (rack_of connection.old) kept.now }
     ensures read { InGroups (λ b. RecordRead b.job kept.now result) connection.old connection.new }
-    ensures blinds { InGroups (λ b. Blinds b.job pads.old pads.new)
+    ensures blinds { InGroups (λ b. Blinds b.job most_dropped pads.old pads.new)
         connection.old connection.new }
 {
     let caller = connection.caller();
@@ -113,7 +113,7 @@ fn read_record<A: Archive, R: Wait>(
     ensures ready { AreReadyFor caller.now passes.new.groups }
     ensures index { passes.new.index ≡ passes.old.index }
     ensures read { RecordRead caller.now.job kept.now result passes.old.groups passes.new.groups }
-    ensures blinds { Blinds caller.now.job pads.old pads.new
+    ensures blinds { Blinds caller.now.job most_dropped pads.old pads.new
         passes.old.groups passes.new.groups }
 {
     let Ok(mut rooms) = Rooms::start(caller.alloc) else {
@@ -157,7 +157,7 @@ fn read_pieces<A: Archive, R: Wait>(
     ensures index { passes.new.index ≡ passes.old.index }
     ensures read { FileRead caller.now.job kept.now bytes.new.items result
         passes.old.groups passes.new.groups }
-    ensures blinds { Blinds caller.now.job pads.old pads.new
+    ensures blinds { Blinds caller.now.job most_dropped pads.old pads.new
         passes.old.groups passes.new.groups }
 {
     for piece in 0..count_pieces(kept.length) {

@@ -108,7 +108,7 @@ fn mend_point<A: Archive, R: Wait>(
     ensures index { passes.new.index ≡ passes.old.index }
     ensures read { PointRead (MendsOn caller.now.job place) x points.old points.new result
         passes.old.groups passes.new.groups }
-    ensures blinds { Blinds caller.now.job pads.old pads.new
+    ensures blinds { Blinds caller.now.job 1 pads.old pads.new
         passes.old.groups passes.new.groups }
 {
     let mut block = Block::zero();
@@ -145,7 +145,7 @@ fn mend_points<A: Archive, R: Wait>(
         kept.now.geometry.need 0 points.old first passes.old.groups
         → PointsRead caller.now.job kept.now.places from kept.now.geometry.shards
         kept.now.geometry.need kept.now.geometry.shards points.new result first passes.new.groups }
-    ensures blinds { Blinds caller.now.job pads.old pads.new
+    ensures blinds { Blinds caller.now.job 16 pads.old pads.new
         passes.old.groups passes.new.groups }
 {
     let places = kept.places.as_slice();
@@ -187,7 +187,7 @@ fn see_points<A: Archive, R: Wait>(
     ensures read { PointsRead caller.now.job kept.now.places from kept.now.geometry.shards
         kept.now.geometry.need kept.now.geometry.shards points.new result
         passes.old.groups passes.new.groups }
-    ensures blinds { Blinds caller.now.job pads.old pads.new
+    ensures blinds { Blinds caller.now.job 16 pads.old pads.new
         passes.old.groups passes.new.groups }
 {
     look_at_points(caller, passes, kept, from, points)?;
@@ -254,7 +254,7 @@ fn read_fragment<A: Archive, R: Wait>(
     ensures read { FragmentRead caller.now.job kept.now at.piece at.fragment
         rooms.old.fragments.items rooms.new.fragments.items result
         passes.old.groups passes.new.groups }
-    ensures blinds { Blinds caller.now.job pads.old pads.new
+    ensures blinds { Blinds caller.now.job 16 pads.old pads.new
         passes.old.groups passes.new.groups }
 {
     let from = first_block(kept, at);
@@ -303,7 +303,7 @@ pub fn read_piece<A: Archive, R: Wait>(
     ensures long { IfOk result (λ object. length object ≡ 928) }
     ensures read { PieceRead caller.now.job kept.now piece result
         passes.old.groups passes.new.groups }
-    ensures blinds { Blinds caller.now.job pads.old pads.new
+    ensures blinds { Blinds caller.now.job 128 pads.old pads.new
         passes.old.groups passes.new.groups }
 {
     rooms.fragments.clear();

@@ -9,7 +9,7 @@ ghost use Rattle.pot_shared.specs.Works.{of_job};
 ghost use Rattle.pot_store.specs.Fetches.{AreFilled};
 ghost use Rattle.pot_store.specs.Renewals.{of_find, of_fetch, of_put, of_renew, PutsSplit};
 ghost use Rattle.pot_store.specs.Renewals.{RenewsFrom, RenewRow};
-ghost use Rattle.pot_shared.specs.Blinds.{Blinds};
+ghost use Rattle.pot_shared.specs.Blinds.{Blinds, most_dropped};
 
 use crate::fetching::{FetchFault, read_kept};
 use crate::putting::{Stopped, put_all};
@@ -188,7 +188,7 @@ pub fn renew_file<A: Archive, R: Wait>(
     ensures worked { WroteForItsJob connection.old connection.new }
     ensures says { TellsIfOnlyWriter (λ b s w. s.mends ≡ true → AreFilled s → RenewsFrom s pads geometry.now b.job
         → RenewRow s b.job name.now geometry.now result w) connection.old connection.new }
-    ensures blinds { Blinds (job_of connection.old) blinds.old blinds.new
+    ensures blinds { Blinds (job_of connection.old) most_dropped blinds.old blinds.new
         (knows connection.old).groups (knows connection.new).groups }
 {
     let kept = match connection.find(name) {

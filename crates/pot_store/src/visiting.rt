@@ -89,7 +89,7 @@ pub fn mend<A: Archive, R: Wait>(
     ensures index { passes.new.index ≡ passes.old.index }
     ensures mends { MendsOn caller.now.job place (came_to result block.new)
         passes.old.groups passes.new.groups }
-    ensures blinds { Blinds caller.now.job pads.old pads.new
+    ensures blinds { Blinds caller.now.job 1 pads.old pads.new
         passes.old.groups passes.new.groups }
 {
     let Caller { rt, vault, job, .. } = *caller;

@@ -116,7 +116,7 @@ twice xs ys n apart a b = (let s = times-append n xs ys in let p = apart n in le
 front_apart : (xs ys : List ℕ) → AreApart (xs ++ ys) → AreApart xs
 front_apart xs ys apart n = (let s = times-append n xs ys in let p = apart n in omega (arith, s, p))
 
-back_apart : (xs ys : List ℕ) → AreApart (xs ++ ys) → AreApart ys
+pub back_apart : (xs ys : List ℕ) → AreApart (xs ++ ys) → AreApart ys
 back_apart xs ys apart n = (let s = times-append n xs ys in let p = apart n in omega (arith, s, p))
 
 here : (n : ℕ) (ns : List ℕ) → Contains (n ∷ ns) n

@@ -30,7 +30,7 @@ use Rattle.pot_theorem.specs.Worlds.{AreAsLeft, IsGroupOf, IsInWorld, RunsReach,
 use Rattle.pot_theorem.specs.Sessions.{ClosedSession, AllSucceed, Succeeds, AreInARow, IsFirst, IsUndisturbed, new_archives, last_session, many_archives, first_archives}
 use Rattle.pot_theorem.proofs.Between.{go_all}
 use Rattle.pot_theorem.proofs.Chaining.{HasColumns, all_begun, all_of}
-use Rattle.pot_theorem.proofs.Groups.{Asks, One, all_went, came_of, empty_then, had_here, logs, named_of, ones_of, pasts_of, reads, shown, since, writtens}
+use Rattle.pot_theorem.proofs.Groups.{Asks, One, all_went, back_apart, came_of, empty_then, had_here, logs, named_of, ones_of, pasts_of, reads, shown, since, writtens}
 
 -- WHICH ARCHIVES HAVE A USE
 
@@ -69,7 +69,7 @@ module _ (earlier : List ℕ) (c : ClosedSession) (u : IsUndisturbed earlier c) 
     steady = λ n h. u.steady n (named_here n h);
     empty = λ n h. u.empty n (came_here n h);
     unused = λ n h. (let x = u.unused n (came_here n h) in unused n x.0 x.1);
-    apart = subst (λ ls. (n : ℕ) → times n (came_by ls) ≤ 1) (sym (ones_of c).are_logs) u.apart;
+    apart = subst (λ ls. (n : ℕ) → times n (came_by ls) ≤ 1) (sym (ones_of c).are_logs) (back_apart (first_archives c) (new_archives c) c.apart.had);
   }
 
   pub went : (used : ℕ → Bool) → IsUnused used c.first.rack earlier → AllWentWell used (pasts_of c (all_of c))

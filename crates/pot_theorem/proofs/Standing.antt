@@ -169,7 +169,7 @@ leads_to c g read written log of =
     )
 
 -- where its own log put a block
-has_own : (c : ClosedSession) (g : ℕ) (read written : Table) (log : List Entry) (e : Entry) (s k : ℕ) (d : Digest) → IsGroupOf c g read written log → Contains log e → Fills s k d e → Has c g s k d
+pub has_own : (c : ClosedSession) (g : ℕ) (read written : Table) (log : List Entry) (e : Entry) (s k : ℕ) (d : Digest) → IsGroupOf c g read written log → Contains log e → Fills s k d e → Has c g s k d
 has_own c g read written log e s k d of has fills w is =
     let to = leads_to c g read written log of in
     let rules = (is_read c g read of.was).rules in
@@ -197,7 +197,7 @@ has_last earlier c [] g s k x go has = has
 has_last earlier c (d ∷ more) g s k x go has = has_last (earlier ++ new_archives c) d more g s k x go.2 (has_next c d g s k x go.0 has)
 
 -- from each
-has_from : (earlier : List ℕ) (c : ClosedSession) (more : List ClosedSession) (d : ClosedSession) (g s k : ℕ) (x : Digest) → AllSucceed earlier c more → Contains (c ∷ more) d → Has d g s k x → Has (last_session c more) g s k x
+pub has_from : (earlier : List ℕ) (c : ClosedSession) (more : List ClosedSession) (d : ClosedSession) (g s k : ℕ) (x : Digest) → AllSucceed earlier c more → Contains (c ∷ more) d → Has d g s k x → Has (last_session c more) g s k x
 has_from earlier c more d g s k x go (zero, lt, e) has = has_last earlier c more g s k x go (subst (λ y. Has y g s k x) (sym e) has)
 has_from earlier c [] d g s k x go (suc i, lt, e) has = absurd (omega (arith, lt))
 has_from earlier c (y ∷ more) d g s k x go (suc i, lt, e) has = has_from (earlier ++ new_archives c) y more d g s k x go.2 (i, omega (arith, lt), e) has

@@ -16,7 +16,8 @@ use Rattle.pot_world.specs.Reached.{EachGroup, Loses, Makes, Move, Site, first_s
 use Rattle.pot_steps.proofs.BlockLemmas.{IsBlock-zero_block}
 use Rattle.pot_world.proofs.Auditing.{first_both, sights_fit}
 use Rattle.pot_world.proofs.Later.{reopened_both, runs_seen_on}
-use Rattle.pot_theorem.specs.Hard.{HomesServe, SeesInRoom, IsVeiled}
+use Rattle.pot_theorem.specs.Hard.{HomesServe}
+use Rattle.pot_theorem.specs.Veil.{SeesInRoom, IsVeiled}
 use Rattle.pot_theorem.specs.Sessions.{ClosedSession, last_session}
 use Rattle.pot_theorem.specs.Worlds.{IsInWorld, IsAsLeft}
 use Rattle.pot_theorem.proofs.Reaching.{IsReached, as_left}

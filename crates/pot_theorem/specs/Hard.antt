@@ -1,9 +1,8 @@
 -- What worlds say of the runs of the program.
-use Rattle.std.specs.Prelude.{◌≡◌, ◌≢◌, ◌<◌, ℕ, Bool, true, List, ◌∷◌, Contains, None, Some}
+use Rattle.std.specs.Prelude.{◌≡◌, ◌≢◌, ◌<◌, ℕ, List, ◌∷◌, Contains, None, Some}
 use Rattle.std.specs.Prelude.{IsTrue, slice_get}
 use Rattle.pot_bytes.specs.declared.digest.Digest.{Digest}
 use Rattle.pot_bytes.specs.Digests.{digest_of}
-use Rattle.pot_bytes.specs.Lists.{IsBlock}
 use Rattle.pot_outside.specs.Archives.{Meaning}
 use Rattle.pot_machine.specs.declared.entry.Entry.{Entry}
 use Rattle.pot_machine.specs.declared.slot.SlotState.TheVariants.{Void, Broken}
@@ -16,12 +15,12 @@ use Rattle.pot_steps.specs.Flights.{flight_in}
 use Rattle.pot_steps.specs.Holdings.{stripe_of}
 use Rattle.pot_steps.specs.Stripe.{Filling}
 use Rattle.pot_session.specs.Stripes.{held_in}
-use Rattle.pot_world.specs.Audit.{Blind, One, Sight, Whole, sight_of}
 use Rattle.pot_world.specs.Coalition.{Served}
 use Rattle.pot_world.specs.Group.{WorldGroup}
-use Rattle.pot_world.specs.Later.{OtherSessions, SessionsFit}
-use Rattle.pot_world.specs.Reached.{Site, first_site}
+use Rattle.pot_world.specs.Reached.{Site}
+use Rattle.pot_theorem.specs.Another.{AnotherFile}
 use Rattle.pot_theorem.specs.Sessions.{ClosedSession, AreInARow, last_session}
+use Rattle.pot_theorem.specs.Veil.{IsVeiled}
 use Rattle.pot_theorem.specs.Worlds.{IsGroupOf, IsInWorld, had_with}
 
 -- STRIPES
@@ -60,41 +59,7 @@ PlacesStand c z =
     (d : Digest) → IsGroupOf c g read written log → slice_get z.groups g ≡ Some h → Contains log e
     → Fills s k d e → digest_of (h.written s k) ≡ d
 
--- THE VEIL
-
--- What a coalition sees of a group that a session left is in this group of a world what the room
--- means. It sees what each archive of the group holds that has served its column in the session,
--- and, where the blinds are exchanged, what it has heard; or, of a group of which it sees all, what
--- each archive holds and has heard.
-abbrev pub SeesInRoom : Bool → Sight → ClosedSession → Table → List Entry → (g h : WorldGroup)
-    → Type 0
-SeesInRoom exchanges Whole c read log g h =
-    (n : ℕ) → Contains (had_with read log) n
-    → ((slot : ℕ) → h.state.held n slot ≡ (c.room.after.means n).held slot)
-    × (h.state.heard n ≡ (c.room.after.means n).heard)
-SeesInRoom exchanges (One k) c read log g h =
-    (n : ℕ) → Contains (had_with read log) n → Served g k n
-    → ((slot : ℕ) → h.state.held n slot ≡ (c.room.after.means n).held slot)
-    × (exchanges ≡ true → h.state.heard n ≡ (c.room.after.means n).heard)
-SeesInRoom exchanges Blind c read log g h = Unit {0}
-
--- For each coalition of columns, and for other bytes in place of the blocks put, which are the same
--- where they come to columns that it sees, there are sessions of the same moves with those bytes
--- that lead to groups in which all that the coalition sees is what the room means. `exchanges` says
--- whether the blinds are exchanged too.
-abbrev pub IsVeiled : (c : ClosedSession) (more : List ClosedSession) → IsInWorld c more → Type 0
-IsVeiled c more w =
-    (exchanges : Bool) (coalition : ℕ → ℕ → Bool) (bytes : ℕ → ℕ → List ℕ)
-    → ((n m : ℕ) → IsBlock (bytes n m))
-    → SessionsFit (sight_of c.first.rack coalition) bytes (first_site c.first.rack) w.sessions
-    w.site w.run
-    → (v : Site)
-    × OtherSessions exchanges (sight_of c.first.rack coalition) bytes (first_site c.first.rack)
-    (first_site c.first.rack) w.sessions w.site w.run v
-    × ((g : ℕ) (read written : Table) (log : List Entry) (a b : WorldGroup)
-    → IsGroupOf (last_session c more) g read written log → slice_get w.site.groups g ≡ Some a
-    → slice_get v.groups g ≡ Some b
-    → SeesInRoom exchanges (sight_of c.first.rack coalition g) (last_session c more) read log a b)
+-- WHAT SERVES
 
 -- the home and the target of a column have served it
 abbrev pub HomesServe : ClosedSession → Site → Type 0
@@ -111,6 +76,7 @@ pub record HoldsInWorld (c : ClosedSession) (more : List ClosedSession) : Type 0
   pub stripes : StripesStand (last_session c more) world.site
   pub places : (d : ClosedSession) → Contains (c ∷ more) d → PlacesStand d world.site
   pub veil : IsVeiled c more world
+  pub another_file : AnotherFile c more world
   pub serve : HomesServe (last_session c more) world.site
 
 abbrev pub TheHardProperty : Type 0

@@ -1,4 +1,5 @@
 pub mod Sessions
 pub mod Worlds
+pub mod Veil
+pub mod Another
 pub mod Hard
-pub mod Quiet

@@ -15,22 +15,27 @@ use Rattle.pot_script.specs.declared.grouping.Step.{Step}
 use Rattle.pot_image.specs.declared.image.Image.{Image}
 use Rattle.pot_image.specs.Images.{Contents, contents}
 use Rattle.pot_image.specs.Rules.{FitsTogether}
-use Rattle.pot_replies.specs.Sections.{Section}
-use Rattle.pot_shared.specs.Hands.{AreApart}
+use Rattle.pot_script.specs.declared.reply.Reply.{Reply}
+use Rattle.pot_replies.specs.Sections.{Follows, Section}
+use Rattle.pot_replies.specs.Sessions.{Replied}
+use Rattle.pot_commands.specs.Ends.{texts_of}
+use Rattle.pot_commands.specs.Rows.{Row}
+use Rattle.pot_commands.specs.Steps.{steps_of}
 use Rattle.pot_refinement.specs.Refinement.{IsEmpty, is_clean}
 use Rattle.pot_session.specs.declared.ending.status.Status.{Status}
 use Rattle.pot_session.specs.Desks.{begun}
 use Rattle.pot_session.specs.Giving.{IsUnlent, IsUnopened}
 use Rattle.pot_session.specs.Losses.{AreBack}
 use Rattle.pot_session.specs.Runs.{Holds, IsOf, Seen}
-use Rattle.pot_session.specs.Serving.{IsClosed, Leaves, came_by}
+use Rattle.pot_session.specs.Serving.{IsClosed, Leaves, ShareNone, came_by, setting_of}
 use Rattle.pot_promises.specs.Chains.{Begins}
 
 -- A SESSION THAT CLOSED
 
 -- What the contract of a run says of one session that closed, over archives that tell what they
 -- hold: the images with which it began and which it left, what the room meant before and after,
--- the archives that the room did not take back, and what the logs gained.
+-- the archives that the room did not take back, what the logs gained, and that no two columns share
+-- an archive.
 pub record ClosedSession : Type 0 where
   pub first : Contents
   pub last : Contents
@@ -40,6 +45,7 @@ pub record ClosedSession : Type 0 where
   pub fits : FitsTogether first
   pub told : IsTrue room.tells
   pub leaves : Leaves room missing first last story
+  pub apart : ShareNone first last
 
 -- a run whose session closed
 pub record RanToClose (seed : List ℕ) (seen : Seen) (answer : Status) : Type 0 where
@@ -62,6 +68,7 @@ session_of {seed} {seen} {answer} r told =
       fits = r.fits;
       told = told;
       leaves = r.closed.leaves;
+      apart = r.closed.apart;
     }
 
 -- No session closed. Each number means what it meant, or each whose archive came back does, or does
@@ -74,6 +81,35 @@ abbrev pub RunsClose : Type 0
 RunsClose =
     (seed : List ℕ) (seen : Seen) (answer : Status) → Holds seed seen answer
     → RanToClose seed seen answer ⊎ NoneClosed seen.room
+
+-- THE REPLIES OF A SESSION
+
+-- In a session that began with this image, and whose logs gained this, these steps have these
+-- replies, by what the logs had gained when the last of them was answered.
+pub record HasReplies (seed : List ℕ) (first : Contents) (story : Section) (ss : List Step)
+    (rs : List Reply) : Type 0 where
+  pub done : Section
+  pub later : Section
+  pub follows : Follows done later story
+  pub replied : Replied (Row (setting_of seed first)) 1 (steps_of ss) rs done
+
+-- The first steps of a run have replies so, and all that the run wrote is of their texts.
+pub record HasAnswered {seed : List ℕ} {seen : Seen} {answer : Status}
+    (r : RanToClose seed seen answer) : Type 0 where
+  pub answered : List Step
+  pub rest : List Step
+  pub parts : r.steps ≡ answered ++ rest
+  pub replies : List Reply
+  pub replied : HasReplies seed (begun (contents r.read)) r.closed.story answered replies
+  pub written : IsTrue seen.sink.tells
+      → (more : List ℕ) × (seen.sink.before ++ texts_of replies ≡ seen.sink.after ++ more)
+
+abbrev pub RunsReply : Type 0
+RunsReply =
+    (seed : List ℕ) (seen : Seen) (answer : Status) (r : RanToClose seed seen answer)
+    → HasAnswered r
+
+-- WHICH ARCHIVES IT HAD
 
 -- the archives of the tables with which it began
 abbrev pub first_archives : ClosedSession → List ℕ
@@ -108,8 +144,6 @@ pub record IsUndisturbed (earlier : List ℕ) (c : ClosedSession) : Type 0 where
   -- the tables and logs of its own session alone.
   pub unused : (n : ℕ) → Contains (new_archives c) n
       → (many_archives c.first.rack ≤ n) × (Contains earlier n → ⊥)
-  -- No archive came twice. The room lends each archive once, of which no clause of a run speaks.
-  pub apart : AreApart (new_archives c)
 
 -- SESSIONS IN A ROW
 

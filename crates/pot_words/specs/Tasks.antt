@@ -1,5 +1,5 @@
 -- The words that spell a task.
-use Rattle.std.specs.Prelude.{◌≡◌, ◌≤◌, ℕ, List, [], ◌∷◌, Option, codes, decimal}
+use Rattle.std.specs.Prelude.{◌≡◌, ◌≤◌, ℕ, Bool, true, false, List, [], ◌∷◌, Option, codes, decimal}
 use Rattle.pot_bytes.specs.Rack.{IsGeometry, IsRack}
 use Rattle.pot_bytes.specs.declared.rack.Geometry.{Geometry}
 use Rattle.pot_bytes.specs.declared.rack.Rack.{Rack}
@@ -11,6 +11,8 @@ use Rattle.pot_words.specs.declared.command.Command.{Command}
 use Rattle.pot_words.specs.declared.command.Command.TheVariants as command
 use Rattle.pot_words.specs.declared.drill.Drill.{Drill}
 use Rattle.pot_words.specs.declared.recover.Recover.{Recover}
+use Rattle.pot_words.specs.declared.recover.Way.{Way}
+use Rattle.pot_words.specs.declared.recover.Way.TheVariants as way
 use Rattle.pot_words.specs.declared.run.Run.{Run}
 use Rattle.pot_words.specs.declared.task.Task.{Task}
 use Rattle.pot_words.specs.declared.task.Task.TheVariants as task
@@ -58,12 +60,24 @@ abbrev pub SpellGenerate : List Text → ℕ → Type 0
 SpellGenerate words n = (1 ≤ n) × (n ≤ 1000000) × (words ≡ decimal n ∷ [])
 
 abbrev pub recover_names : List Text
-recover_names = codes "archives" ∷ codes "stripes" ∷ codes "blur" ∷ codes "robust" ∷ []
+recover_names = codes "archives" ∷ codes "stripes" ∷ codes "blur" ∷ codes "robust"
+    ∷ codes "open" ∷ []
+
+-- what two answers name: at most one of them is yes
+abbrev pub IsWay : Bool → Bool → Way → Type 0
+IsWay robust chains way.Rings = (robust ≡ false) × (chains ≡ false)
+IsWay robust chains way.Robust = (robust ≡ true) × (chains ≡ false)
+IsWay robust chains way.Chains = (robust ≡ false) × (chains ≡ true)
+
+-- rings that close are meant where neither option is `yes`
+abbrev pub HasWay : (Text → Option Text) → Way → Type 0
+HasWay value w = (robust : Bool) × (chains : Bool) × HasYes value (codes "robust") robust
+    × HasYes value (codes "open") chains × IsWay robust chains w
 
 abbrev pub HasRecover : Recover → (Text → Option Text) → Type 0
 HasRecover r value = HasNumber value (codes "archives") 1 512 r.archives
     × HasNumber value (codes "stripes") 1 4096 r.stripes
-    × HasNumber value (codes "blur") 0 63 r.blur × HasYes value (codes "robust") r.robust
+    × HasNumber value (codes "blur") 0 63 r.blur × HasWay value r.way
 
 -- the words spell the options of `recover`
 abbrev pub SpellRecover : List Text → Recover → Type 0

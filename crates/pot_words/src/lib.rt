@@ -30,7 +30,7 @@ mod values;
 pub use audit::Audit;
 pub use drill::Drill;
 pub use reading::read_words;
-pub use recover::Recover;
+pub use recover::{Recover, Way};
 pub use run::Run;
 pub use spot::Spot;
 pub use task::Task;

@@ -4,13 +4,24 @@ ghost use Rattle.std.specs.Prelude.{IfOk, map};
 ghost use Rattle.std.specs.String.{string_bytes};
 ghost use Rattle.pot_options.specs.Options.{given};
 ghost use Rattle.pot_words.specs.Answers.{IsOnly};
-ghost use Rattle.pot_words.specs.Tasks.{HasRecover, SpellRecover};
+ghost use Rattle.pot_words.specs.Tasks.{HasRecover, HasWay, IsWay, SpellRecover};
 ghost use Rattle.pot_words.specs.declared.recover.Recover.{Recover};
 
 use crate::values::{number_of, small_number_of, yes_of};
 use pot_bytes::NoMemory;
 use pot_options::{Options, read_options};
 use std::alloc::Global;
+
+/// By what files are found.
+#[derive(Clone, Copy, PartialEq, Eq, Debug)]
+pub enum Way {
+    /// By rings that close.
+    Rings,
+    /// By rings some of whose shares may be wrong.
+    Robust,
+    /// By chains that need not close: m shards that follow one another.
+    Chains,
+}
 
 /// Where files are to be found without a desk.
 #[derive(Clone, Copy, PartialEq, Eq, Debug)]
@@ -21,11 +32,10 @@ pub struct Recover {
     pub stripes: u32,
     /// The number of low bits that a pointer leaves out, at most 63.
     pub blur: u8,
-    /// Whether some shares of a ring may be wrong.
-    pub robust: bool,
+    pub way: Way,
 }
 
-static NAMES: [&str; 4] = ["archives", "stripes", "blur", "robust"];
+static NAMES: [&str; 5] = ["archives", "stripes", "blur", "robust", "open"];
 
 /// The task that the words after `recover` spell.
 pub fn read_recover(alloc: Global, words: &[String]) -> Result<Option<Recover>, NoMemory>
@@ -44,11 +54,32 @@ fn recover_of(options: &Options<'_>) -> Option<Recover>
     let archives = number_of(options, "archives", 1, 512)?;
     let stripes = number_of(options, "stripes", 1, 4096)?;
     let blur = small_number_of(options, "blur", 0, 63)?;
-    let robust = yes_of(options, "robust")?;
+    let way = way_of(options)?;
     Some(Recover {
         archives,
         stripes,
         blur,
-        robust,
+        way,
     })
+}
+
+// The way that two options name. At most one of them is `yes`.
+fn way_of(options: &Options<'_>) -> Option<Way>
+    ensures { IsOnly (HasWay (given options.now)) result }
+{
+    let robust = yes_of(options, "robust")?;
+    let chains = yes_of(options, "open")?;
+    one_way(robust, chains)
+}
+
+// The way, where at most one is asked for.
+fn one_way(robust: bool, chains: bool) -> Option<Way>
+    ensures { IsOnly (IsWay robust chains) result }
+{
+    match (robust, chains) {
+        (false, false) => Some(Way::Rings),
+        (true, false) => Some(Way::Robust),
+        (false, true) => Some(Way::Chains),
+        (true, true) => None,
+    }
 }

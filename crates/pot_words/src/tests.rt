@@ -243,38 +243,46 @@ fn generate(rt: HostRuntime) -> Result<(), Fail> {
 }
 
 // A recovery from so many archives.
-fn recovery(archives: u32, stripes: u32, blur: u8, robust: bool) -> Recover {
+fn recovery(archives: u32, stripes: u32, blur: u8, way: Way) -> Recover {
     Recover {
         archives,
         stripes,
         blur,
-        robust,
+        way,
     }
 }
 
 #[test]
 fn recover(rt: HostRuntime) -> Result<(), Fail> {
     let alloc = rt.alloc();
-    let good: [(&str, Recover); 5] = [
+    let good: [(&str, Recover); 7] = [
         (
             "recover --archives 20 --stripes 16 --blur 16",
-            recovery(20, 16, 16, false),
+            recovery(20, 16, 16, Way::Rings),
         ),
         (
             "recover --blur=0 --archives=1 --stripes=1",
-            recovery(1, 1, 0, false),
+            recovery(1, 1, 0, Way::Rings),
         ),
         (
             "recover --stripes 4096 --blur 63 --archives=512",
-            recovery(512, 4096, 63, false),
+            recovery(512, 4096, 63, Way::Rings),
         ),
         (
             "recover --archives 20 --stripes 16 --blur 16 --robust yes",
-            recovery(20, 16, 16, true),
+            recovery(20, 16, 16, Way::Robust),
         ),
         (
             "recover --robust no --archives 20 --stripes 16 --blur 16",
-            recovery(20, 16, 16, false),
+            recovery(20, 16, 16, Way::Rings),
+        ),
+        (
+            "recover --open=yes --archives 20 --stripes 16 --blur 16 --robust no",
+            recovery(20, 16, 16, Way::Chains),
+        ),
+        (
+            "recover --open no --archives 20 --stripes 16 --blur 16 --robust yes",
+            recovery(20, 16, 16, Way::Robust),
         ),
     ];
     for (line, wanted) in good {
@@ -294,6 +302,10 @@ fn recover(rt: HostRuntime) -> Result<(), Fail> {
         "recover --archives 20 --stripes 16 --blur 16 --robust",
         "recover --archives 20 --stripes 16 --blur 16 --robust true",
         "recover --archives 20 --stripes 16 --blur 16 --robust Yes",
+        "recover --archives 20 --stripes 16 --blur 16 --open",
+        "recover --archives 20 --stripes 16 --blur 16 --open true",
+        "recover --archives 20 --stripes 16 --blur 16 --open yes --robust yes",
+        "recover --archives 20 --stripes 16 --blur 16 --open yes --open yes",
         "recover --archives 20 --stripes 16 --blur 16 --seed 00",
     ];
     assert!(rt; none_of(alloc, bad.as_slice())?);

@@ -1,4 +1,4 @@
-"""What `pot_bench` computes for an argument of 1, by docs/PERFORMANCE.md: the lines of its standard output."""
+"""What `pot_bench` computes for an argument of 1, by its README: the lines of its standard output."""
 
 from . import field, pieces, session
 from .devices import Archive, Desk, Room, Sink, Source

@@ -74,8 +74,8 @@ class SessionMaker(Maker):
             lines += self.trouble() + self.session()
             lines += ["image", "fields", "records", "slots", "logs", "blocks", "heard", "room"]
         blur = self.random.choice([0, 16, 40])
-        robust = self.random.choice(["", " --robust yes"])
-        return lines + [f"$ recover --archives {self.archives + 2} --stripes {stripes} --blur {blur}{robust}"]
+        way = self.random.choice(["", " --robust yes", " --open yes"])
+        return lines + [f"$ recover --archives {self.archives + 2} --stripes {stripes} --blur {blur}{way}"]
 
     def trouble(self):
         """What happens before a session."""

@@ -26,9 +26,12 @@ def by_kind(shards):
     return kinds
 
 
-def count_chains(shards, is_robust):
-    """How many lists of 1 to m shards begin at x = 1 and are linked; of 1 to n where shares may be wrong."""
-    total = 0
+def count_chains(shards, way):
+    """How many lists of 1 to m shards begin at x = 1 and are linked; of 1 to n where shares may be wrong, from each x on where
+    chains may be open."""
+    if way == "open":
+        return sum(1 for (need, size), points in by_kind(shards).items() for _ in open_chains(points, size, need))
+    is_robust, total = way == "robust", 0
     for (need, size), points in by_kind(shards).items():
         ends = {shard: 1 for named in points[1].values() for shard in named}
         total += sum(ends.values())
@@ -93,6 +96,25 @@ def goes_round(points, size, chain):
     return any(end.pointer == pieces.blurred(chain[0].name, chain[0].blur) for end in ends)
 
 
+def open_chains(points, size, need):
+    """Chains of 1 to m shards from each point on, the point after n being 1."""
+    stack = [(shard,) for x in range(1, size + 1) for named in points[x].values() for shard in named]
+    while stack:
+        chain = stack.pop()
+        yield chain
+        if len(chain) < need:
+            stack += [chain + (after,) for after in points[chain[-1].x % size + 1].get(chain[-1].pointer, ())]
+
+
+def open_contents(points, need, size):
+    """The contents that open chains of m shards mean."""
+    for chain in open_chains(points, size, need):
+        if len(chain) == need:
+            content = content_of([shard.share for shard in chain], field.lagrange([shard.x for shard in chain], 0))
+            if content:
+                yield content
+
+
 def robust_contents(points, need, size):
     """The contents with which rings close robustly."""
     for ring in rings(points, size, size):
@@ -121,14 +143,17 @@ def robust_join(shares, need):
     return None
 
 
-def recover(blocks, blur, is_robust=False):
+CONTENTS = {"rings": closed_contents, "robust": robust_contents, "open": open_contents}
+
+
+def recover(blocks, blur, way="rings"):
     """The objects that blocks give, in byte order and each once."""
     shards = shards_of(blocks, blur)
-    if count_chains(shards, is_robust) > MOST:
+    if count_chains(shards, way) > MOST:
         raise Wide()
     closed = set()
     for (need, size), points in by_kind(shards).items():
-        closed.update((robust_contents if is_robust else closed_contents)(points, need, size))
+        closed.update(CONTENTS[way](points, need, size))
     return sorted(objects_of(closed))
 
 

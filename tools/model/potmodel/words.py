@@ -88,12 +88,14 @@ def read_run(words):
 
 
 def read_recover(words):
-    """`recover`: numbers of archives and stripes, a blur, and whether some shares may be wrong."""
-    reader = Reader(words, {"archives", "stripes", "blur", "robust"})
+    """`recover`: numbers of archives and stripes, a blur, and the way: by rings, by some with wrong shares, or by open chains."""
+    reader = Reader(words, {"archives", "stripes", "blur", "robust", "open"})
     archives, stripes, blur = reader.number("archives", 1, 512), reader.number("stripes", 1, 4096), reader.number("blur", 0, 63)
-    if not reader.is_fine or reader.values.get("robust", "no") not in ("yes", "no"):
+    asked = [reader.values.get(name, "no") for name in ("robust", "open")]
+    ways = {("no", "no"): "rings", ("yes", "no"): "robust", ("no", "yes"): "open"}
+    if not reader.is_fine or tuple(asked) not in ways:
         return None
-    return "recover", archives, stripes, blur, reader.values.get("robust") == "yes"
+    return "recover", archives, stripes, blur, ways[tuple(asked)]
 
 
 def read_drill(words):

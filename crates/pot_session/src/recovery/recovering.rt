@@ -15,8 +15,8 @@ use crate::ending::stop::Stop;
 use crate::recovery::listing::list_objects;
 use pot_bytes::Block;
 use pot_outside::{Archive, Failed, Held, Room, RoomFault, Sink};
-use pot_recover::{RecoverFault, Recovered, recover, recover_robust};
-use pot_words::Recover;
+use pot_recover::{RecoverFault, Recovered, recover, recover_open, recover_robust};
+use pot_words::{Recover, Way};
 use std::alloc::Global;
 
 /// Reads the block of a slot, where it has one.
@@ -171,22 +171,22 @@ fn read_archives<R: Room>(
     Ok(blocks)
 }
 
-/// The objects that these blocks give, where `robust` by rings some of whose shares may be wrong.
+/// The objects that these blocks give, by this way.
 fn objects_in(
     alloc: Global,
     blocks: &[Block],
     bits: u8,
-    robust: bool,
+    way: Way,
 ) -> Result<Recovered, RecoverFault>
     requires bits { bits ≤ 63 }
     requires few { length blocks.now < 2 ^ 32 }
-    ensures found { IfOk result (λ objects. GiveObjects robust blocks.now bits objects) }
-    ensures wide { IfErr result (λ fault. GiveTooMany robust blocks.now bits fault) }
+    ensures found { IfOk result (λ objects. GiveObjects way blocks.now bits objects) }
+    ensures wide { IfErr result (λ fault. GiveTooMany way blocks.now bits fault) }
 {
-    if robust {
-        recover_robust(alloc, blocks, bits)
-    } else {
-        recover(alloc, blocks, bits)
+    match way {
+        Way::Rings => recover(alloc, blocks, bits),
+        Way::Robust => recover_robust(alloc, blocks, bits),
+        Way::Chains => recover_open(alloc, blocks, bits),
     }
 }
 
@@ -211,7 +211,7 @@ fn find_objects<R: Room>(alloc: Global, task: &Recover, room: &mut R) -> Result<
         (IsErrOf result Stop.RoomFault) }
 {
     match read_archives(alloc, task, room) {
-        Ok(blocks) => match objects_in(alloc, &blocks, task.blur, task.robust) {
+        Ok(blocks) => match objects_in(alloc, &blocks, task.blur, task.way) {
             Ok(objects) => Ok(objects),
             Err(RecoverFault::Wide { .. }) => Err(Stop::TooWide),
             Err(RecoverFault::NoMemory) => Err(Stop::NoMemory),

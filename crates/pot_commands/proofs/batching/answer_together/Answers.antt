@@ -1,6 +1,8 @@
 use Rattle.std.proofs.Common.{refl}
 use Rattle.pot_shared.specs.Works.{known}
+use Rattle.pot_commands.specs.Sharing.{common_of}
 use Rattle.pot_commands.proofs.BeginLemmas.{moves_stop}
+use Rattle.pot_commands.proofs.DrawnLemmas.{moves_blinds, moves_then}
 use Rattle.pot_commands.proofs.Going.{filled_stays, went_more}
 use Rattle.pot_commands.proofs.TakingLemmas.{took_on, used_on}
 use Rattle.pot_commands.proofs.batching.answer_together.Goals as goal
@@ -40,3 +42,14 @@ returns-in-Err-work_begun-clause-used g c =
 pub returns-in-Err-work_begun-clause-took : goal.returns-in-Err-work_begun-clause-took
 returns-in-Err-work_begun-clause-took g c =
     took_on _ _ _ _ _ _ _ _ _ c.in-Ok.ensures.begun.went c.work_begun.ensures.went c.in-Ok.ensures.begun.stays.groups.names (λ e. cc e) c.in-Ok.ensures.took c.work_begun.ensures.none
+
+pub returns-in-Err-clause-blinds : goal.returns-in-Err-clause-blinds
+returns-in-Err-clause-blinds g c = moves_blinds (common_of c.args.crew.now.shared) _ _ _ _ _ c.in-Err.ensures.begun.1
+
+pub returns-in-Ok-work_begun-clause-blinds : goal.returns-in-Ok-work_begun-clause-blinds
+returns-in-Ok-work_begun-clause-blinds g c =
+    moves_then (common_of c.args.crew.now.shared) _ _ _ _ _ _ c.in-Ok.ensures.begun c.work_begun.ensures.went c.work_begun.ensures.blinds
+
+pub returns-in-Err-work_begun-clause-blinds : goal.returns-in-Err-work_begun-clause-blinds
+returns-in-Err-work_begun-clause-blinds g c =
+    moves_then (common_of c.args.crew.now.shared) _ _ _ _ _ _ c.in-Ok.ensures.begun c.work_begun.ensures.went c.work_begun.ensures.blinds

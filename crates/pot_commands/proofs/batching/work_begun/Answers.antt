@@ -1,12 +1,13 @@
-use Rattle.std.proofs.Common.{◌++◌, length, ap, sym, ◌∙◌, arith}
+use Rattle.std.proofs.Common.{◌++◌, length, refl, ap, sym, ◌∙◌, arith}
 use Rattle.pot_shared.specs.Works.{known}
 use Rattle.pot_commands.specs.Sharing.{common_of}
 use Rattle.pot_commands.specs.Jobs.{replies_in}
 use Rattle.pot_commands.proofs.AnswerLemmas.{stayed_worked}
 use Rattle.pot_commands.proofs.BeginLemmas.{moves_leave}
 use Rattle.pot_commands.proofs.Going.{work_all_went}
-use Rattle.pot_commands.proofs.TogetherLemmas.{given_have, lines_worked_are, worked_have, worked_count, taken_went, taken_stays, taken_gives, taken_leaves, taken_none}
-use Rattle.pot_commands.proofs.UnbegunLemmas.{fewer_jobs, back_went, back_stays, back_leaves, back_none}
+use Rattle.pot_commands.proofs.TogetherLemmas.{given_have, lines_worked_are, worked_have, worked_count, taken_went, taken_stays, taken_gives, taken_leaves, taken_none, taken_blinds}
+use Rattle.pot_commands.proofs.UnbegunLemmas.{fewer_jobs, back_went, back_stays, back_leaves, back_none, back_blinds}
+use Rattle.pot_commands.proofs.DrawnLemmas.{still_blinds}
 use Rattle.pot_commands.proofs.batching.work_begun.Goals as goal
 
 pub returns-in_default-clause-went : goal.returns-in_default-clause-went
@@ -160,3 +161,38 @@ returns-in-Err-clause-none g c =
       shared = c.in-Err.ensures.worked;
       joined = c.take_back-in-Err.ensures.joined;
     })
+
+pub returns-then-take_back-clause-blinds : goal.returns-then-take_back-clause-blinds
+returns-then-take_back-clause-blinds g c =
+    taken_blinds (common_of c.args.crew.now.shared) (known c.args.passes.now.groups c.args.passes.now.index) (known c.work_lines.new.passes.groups c.work_lines.new.passes.index) (known c.take_back.new.passes.groups c.take_back.new.passes.index) c.args.job c.args.lines.now c.args.tasks.items c.in-Ok-work_lines.jobs.items (record {
+      can = c.requires.can;
+      can_v = c.in-Ok-work_lines.ensures.can;
+      can_x = c.take_back.ensures.can;
+      parts = c.requires.parts;
+      worked = (lines_worked_are _ _ _ _ _ _ _ c.in-Ok-work_lines.ensures.worked);
+      joined = c.take_back.ensures.joined;
+    }) c.requires.filled
+
+pub returns-else-take_back-clause-blinds : goal.returns-else-take_back-clause-blinds
+returns-else-take_back-clause-blinds g c =
+    taken_blinds (common_of c.args.crew.now.shared) (known c.args.passes.now.groups c.args.passes.now.index) (known c.work_lines.new.passes.groups c.work_lines.new.passes.index) (known c.take_back.new.passes.groups c.take_back.new.passes.index) c.args.job c.args.lines.now c.args.tasks.items c.in-Ok-work_lines.jobs.items (record {
+      can = c.requires.can;
+      can_v = c.in-Ok-work_lines.ensures.can;
+      can_x = c.take_back.ensures.can;
+      parts = c.requires.parts;
+      worked = (lines_worked_are _ _ _ _ _ _ _ c.in-Ok-work_lines.ensures.worked);
+      joined = c.take_back.ensures.joined;
+    }) c.requires.filled
+
+pub returns-in-Err-clause-blinds : goal.returns-in-Err-clause-blinds
+returns-in-Err-clause-blinds g c =
+    back_blinds (common_of c.args.crew.now.shared) (known c.args.passes.now.groups c.args.passes.now.index) (known c.work_lines.new.passes.groups c.work_lines.new.passes.index) (known c.take_back-in-Err.new.passes.groups c.take_back-in-Err.new.passes.index) c.args.job c.args.lines.now c.in-Err.field-0.jobs.items (record {
+      can = c.requires.can;
+      can_x = c.take_back-in-Err.ensures.can;
+      parts = c.requires.parts;
+      shared = c.in-Err.ensures.worked;
+      joined = c.take_back-in-Err.ensures.joined;
+    })
+
+pub returns-in_default-clause-blinds : goal.returns-in_default-clause-blinds
+returns-in_default-clause-blinds g c = still_blinds (common_of c.args.crew.now.shared) (known c.args.passes.now.groups c.args.passes.now.index) (known c.args.passes.now.groups c.args.passes.now.index) (λ h. refl)

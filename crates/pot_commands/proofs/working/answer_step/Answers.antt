@@ -1,5 +1,7 @@
 use Rattle.std.proofs.Common.{arith}
 use Rattle.pot_shared.specs.Works.{known}
+use Rattle.pot_commands.specs.Sharing.{common_of}
+use Rattle.pot_commands.proofs.DrawnLemmas.{command_blinds}
 use Rattle.pot_commands.proofs.Going.{work_all_went}
 use Rattle.pot_commands.proofs.StepLemmas.{fewer_parts, one_job, one_says, one_took, one_worked, together_jobs, together_says, together_took, together_worked, work_stays}
 use Rattle.pot_commands.proofs.working.answer_step.Goals as goal
@@ -48,3 +50,8 @@ returns-in-Together-clause-says g c =
 
 pub returns-in-Together-clause-took : goal.returns-in-Together-clause-took
 returns-in-Together-clause-took g c = together_took c.args.step.now c.in-Together.lines _ c.in-Together.is c.as_slice.ensures _ _ _ _ _ _ c.answer_together.ensures.took
+
+pub returns-in-One-clause-blinds : goal.returns-in-One-clause-blinds
+returns-in-One-clause-blinds g c =
+    command_blinds (common_of c.args.crew.now.shared) c.args.job c.in-One.command (known c.args.passes.now.groups c.args.passes.now.index) (known c.answer.new.passes.groups c.answer.new.passes.index)
+    c.requires.filled c.answer.ensures.worked c.answer.ensures.blinds c.answer.result c.answer.ensures.says

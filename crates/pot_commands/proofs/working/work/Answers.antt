@@ -1,11 +1,18 @@
 use Rattle.std.proofs.Common.{◌≡◌, ◌+◌, ◌^◌, length, take, refl, ap, ◌∙◌, arith}
+use Rattle.std.specs.Prelude.{Ok, Err}
 use Rattle.std.proofs.Math.Seq.{take-length}
+use Rattle.pot_outside.specs.Accounts.{transition}
+use Rattle.pot_shared.specs.Works.{known}
+use Rattle.pot_commands.specs.Sharing.{common_of}
+use Rattle.pot_commands.specs.Steps.{step_of}
+use Rattle.pot_commands.proofs.DrawnLemmas.{blind_below, none_below}
 use Rattle.pot_commands.proofs.WorkingLemmas.{begins_working, all_took, ends_took, index_parts_stay, jobs_fit, new_stays, new_went, parts_stay, working_ends, working_more}
 use Rattle.pot_commands.proofs.working.work.Goals as goal
 
 pub loop-step-init : goal.loop-step-init
 loop-step-init g c = record {
   working = begins_working _ _ _ _ _ _ _ _ c.args.crew.now.shared.vault.now.groups c.args.crew.now.shared.vault.now.index _ _ c.requires.can.ready c.requires.can.index_ready c.requires.filled;
+  blind = none_below (common_of c.args.crew.now.shared) 1 (known c.args.passes.now.groups c.args.passes.now.index);
   can = c.requires.can;
   used = c.requires.used;
   room_later = omega arith;
@@ -42,6 +49,8 @@ loop-step-preserved g c =
       working =
           working_more _ _ _ _ _ _ _ _ _ _ _ _ _ (g.R.Room.meaning c.work_one.new.room) _ _ _ i.working c.step-item.result c.loop-step-test.true c.step-item.is c.work_one.ensures.went c.work_one.ensures.stays
           _ c.in-Ok.some _ (λ e. cc) c.in-Ok.ensures.took c.in-Ok.ensures.ends _ (ap (λ n. c.loop-step.job + n) c.jobs_in-job.ensures);
+      blind = blind_below (common_of c.args.crew.now.shared) c.loop-step.job (step_of c.step-item.result) _ _ _ (transition g.K.Sink.account c.loop-step.sink c.work_one.new.sink) (Ok c.in-Ok.some)
+          i.working.went c.work_one.ensures.went i.working.filled c.in-Ok.ensures.ends c.work_one.ensures.blinds i.blind _ (ap (λ n. c.loop-step.job + n) c.jobs_in-job.ensures);
       can = c.work_one.ensures.can;
       used = c.work_one.ensures.used;
       room_later = omega (arith, i.room_later, c.work_one.ensures.room.later);
@@ -70,3 +79,12 @@ pub overflow_add-job : goal.overflow_add-job
 overflow_add-job g c =
     let fits = jobs_fit c.args.steps.now c.loop-step.step-index c.loop-step.job (2 ^ 31) c.step-item.result c.loop-step-test.true c.step-item.is c.loop-step.invariant.working.number c.requires.few in
     let same = c.jobs_in-job.ensures in omega (arith, fits.1, same)
+
+pub returns-in-Err-clause-blinds : goal.returns-in-Err-clause-blinds
+returns-in-Err-clause-blinds g c =
+    let i = c.loop-step.invariant in
+    (blind_below (common_of c.args.crew.now.shared) c.loop-step.job (step_of c.step-item.result) _ _ _ (transition g.K.Sink.account c.loop-step.sink c.work_one.new.sink) (Err c.in-Err.ending)
+    i.working.went c.work_one.ensures.went i.working.filled c.in-Err.ensures.ends c.work_one.ensures.blinds i.blind _ refl).blinds
+
+pub returns-clause-blinds : goal.returns-clause-blinds
+returns-clause-blinds g c = c.loop-step.invariant.blind.blinds

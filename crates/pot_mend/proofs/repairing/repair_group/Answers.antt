@@ -2,9 +2,8 @@ use Rattle.std.proofs.Common.{arith, refl, ◌∙◌}
 use Rattle.std.proofs.lemmas.Result.{err_from_is_err_and}
 use Rattle.pot_group.specs.declared.finding.Kind.TheVariants as kind
 use Rattle.pot_shared.proofs.AddLemmas.{next_slot}
-use Rattle.pot_shared.proofs.BlindLemmas.{blinds_none}
 use Rattle.pot_mend.proofs.SectionLemmas.{call_in}
-use Rattle.pot_mend.proofs.RowLemmas.{found_blinds, found_fits, found_step, group_blinds, group_draws, group_row, group_work, repairing_begin, stop_draws, stop_row, stop_work}
+use Rattle.pot_mend.proofs.RowLemmas.{drawing_begin, found_drawing, found_fits, found_step, group_blinds, group_draws, group_row, group_work, repairing_begin, stop_blinds, stop_draws, stop_row, stop_work}
 use Rattle.pot_mend.proofs.repairing.repair_group.Goals as goal
 
 pub places-init : goal.places-init
@@ -12,7 +11,7 @@ places-init g c = (
   c.requires.ready,
   refl,
   repairing_begin c.args.job c.args.group c.args.pads.now c.args.passes.now.groups c.requires.ready.idle,
-  blinds_none c.requires.ready.idle,
+  drawing_begin c.requires.ready.idle,
   refl,
 )
 
@@ -35,7 +34,7 @@ returns-in_err-more-clause-stream g c =
 
 pub returns-in_err-more-clause-blinds : goal.returns-in_err-more-clause-blinds
 returns-in_err-more-clause-blinds g c =
-    found_blinds _ _ _ _ _ _ _ _ _ _ _ _ _ c.requires.group c.places.invariant.0 c.places.invariant.2 _ (call_in c.places.invariant.4 c.in-Some.ensures.call) _ _ c.places.invariant.3 c.in_err-more.ensures.blinds
+    stop_blinds _ _ _ _ _ _ _ _ _ _ _ _ _ c.requires.group c.places.invariant.0 c.places.invariant.2 _ (call_in c.places.invariant.4 c.in-Some.ensures.call) _ _ c.places.invariant.3 c.in_err-more.ensures.blinds
 
 pub overflow_add-repaired : goal.overflow_add-repaired
 overflow_add-repaired g c =
@@ -52,7 +51,7 @@ places-preserved g c = (
   c.repair_place.ensures.ready,
   (c.repair_place.ensures.index ∙ c.next.ensures.index) ∙ c.places.invariant.1,
   found_step _ _ _ _ _ _ _ _ _ _ _ _ _ c.requires.group c.places.invariant.0 c.places.invariant.2 _ (call_in c.places.invariant.4 c.in-Some.ensures.call) _ _ _ c.in_ok-more.ensures.repairs,
-  found_blinds _ _ _ _ _ _ _ _ _ _ _ _ _ c.requires.group c.places.invariant.0 c.places.invariant.2 _ (call_in c.places.invariant.4 c.in-Some.ensures.call) _ _ c.places.invariant.3 c.in_ok-more.ensures.blinds,
+  found_drawing _ _ _ _ _ _ _ _ _ _ _ _ _ c.requires.group c.places.invariant.0 c.places.invariant.2 _ (call_in c.places.invariant.4 c.in-Some.ensures.call) _ _ c.places.invariant.3 c.in_ok-more.ensures.blinds,
   c.places.invariant.4,
 )
 

@@ -1,7 +1,9 @@
-use Rattle.std.proofs.Common.{inl, inr, length}
+use Rattle.std.proofs.Common.{inl, inr, length, map}
 use Rattle.std.proofs.lemmas.Result.{on_ok_weaker}
 use Rattle.pot_recover.specs.Groups.{shards_in}
-use Rattle.pot_recover.proofs.ClosingLemmas.{chain_whole, chain_bytes, chain_point, closes_is, closes_not, content_some, content_none}
+use Rattle.pot_recover.proofs.ClosingLemmas.{chain_whole, chain_bytes, chain_few, chain_point, closes_is, closes_not, content_some, content_none}
+use Rattle.pot_recover.proofs.JoinLemmas.{first_points_are}
+use Rattle.pot_recover.specs.HeldShards.{point_of}
 use Rattle.pot_recover.proofs.closing.add_content.Goals as goal
 
 pub content_of-requires-clause-whole : goal.content_of-requires-clause-whole
@@ -17,7 +19,9 @@ content_of-requires-clause-bytes c =
 pub content_of-requires-clause-points : goal.content_of-requires-clause-points
 content_of-requires-clause-points c =
     let g = c.args.group.now in
-    chain_point (shards_in g) g.need (length g.parts.items) g.bits c.args.chain.now c.requires.chain
+    first_points_are (map point_of c.args.chain.now) (length c.args.chain.now)
+    (chain_point (shards_in g) g.need (length g.parts.items) g.bits c.args.chain.now c.requires.chain)
+    (chain_few (shards_in g) g.need (length g.parts.items) g.bits c.args.chain.now c.requires.chain)
 
 pub returns-in-Some : goal.returns-in-Some
 returns-in-Some c =

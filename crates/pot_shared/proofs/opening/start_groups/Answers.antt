@@ -5,7 +5,7 @@ use Rattle.std.specs.Prelude.{Contains, flat_map, slice_get}
 use Rattle.pot_machine.specs.Table.{archives_in}
 use Rattle.pot_group.specs.Group.{view_of}
 use Rattle.pot_shelves.specs.Shelves.{numbers_of}
-use Rattle.pot_shared.specs.Groups.{IsOpened, IsStarted, IsTakenFrom, AreMarked, AreTakenFrom, RoseBy}
+use Rattle.pot_shared.specs.Groups.{IsOpened, IsStarted, IsTakenFrom, AreMarked, AreTakenFrom, RoseBy, RoseOftenBy}
 use Rattle.pot_shared.specs.Members.{opened_at}
 use Rattle.pot_bytes.proofs.Elements.{none_contained}
 use Rattle.pot_shared.specs.Hands.{AreApart, AreMeantButLost}
@@ -71,7 +71,7 @@ loop-alloc-preserved g c =
         subst (λ ms. AreTakenFrom meant (λ m. view_of g.A.Archive.account.meaning m.group) ms) (sym c.push_reserved.ensures.items)
             (each_more (λ m. IsTakenFrom meant (view_of g.A.Archive.account.meaning m.group)) c.loop-alloc.members.items c.in-Ok.member sofar.1 (record {
               marked = subst (λ t. AreMarked meant t (view_of g.A.Archive.account.meaning c.in-Ok.member.group).shelves) (sym c.in-Ok.ensures.started.first) (c.in-Ok.ensures.marked meant told sofar.0);
-              opened = subst (λ t. IsOpened meant (RoseBy meant t (opened_at (view_of g.A.Archive.account.meaning c.in-Ok.member.group).shelves)) t (view_of g.A.Archive.account.meaning c.in-Ok.member.group).log) (sym c.in-Ok.ensures.started.first) (c.in-Ok.ensures.opened meant told sofar.0);
+              opened = subst (λ t. IsOpened meant (RoseBy meant t (opened_at (view_of g.A.Archive.account.meaning c.in-Ok.member.group).shelves)) (RoseOftenBy meant t (opened_at (view_of g.A.Archive.account.meaning c.in-Ok.member.group).shelves)) t (view_of g.A.Archive.account.meaning c.in-Ok.member.group).log) (sym c.in-Ok.ensures.started.first) (c.in-Ok.ensures.opened meant told sofar.0);
             })),
       ));
       lost = λ meant told apart are. (let sofar = c.loop-alloc.invariant.lost meant told apart are in (

@@ -2,7 +2,7 @@ use Rattle.std.proofs.Common.{◌≡◌, ◌∙◌, true, sym, subst}
 use Rattle.pot_replies.specs.Settings.{Setting}
 use Rattle.pot_shared.specs.Connections.{bound, knows}
 use Rattle.pot_shared.specs.Works.{known, section_of, JobWroteOnly, JobOnlyWriter, IsSettingOf}
-use Rattle.pot_shared.proofs.BlindLemmas.{blinds_quiet, blinds_then, none_known}
+use Rattle.pot_shared.proofs.BlindLemmas.{blinds_quiet, none_known, quiet_then}
 use Rattle.pot_shared.proofs.ConnectionLemmas.{groups_at}
 use Rattle.pot_store.specs.Fetches.{AreFilled, FetchRow}
 use Rattle.pot_store.proofs.SearchLemmas.{lone_work, absent_row, silent_row, index_full_row}
@@ -104,5 +104,5 @@ pub returns-in-Ok-clause-blinds : goal.returns-in-Ok-clause-blinds
 returns-in-Ok-clause-blinds g c =
     let s0 = c.args.connection.now in
     let b = bound s0 in
-    blinds_then (blinds_quiet (none_known b.job b.vault.rack b.vault.groups (knows s0).groups (knows c.find.new.self).groups s0.ready c.find.ensures.groups))
+    quiet_then (none_known b.job b.vault.rack b.vault.groups (knows s0).groups (knows c.find.new.self).groups s0.ready c.find.ensures.groups)
     (groups_at c.find.ensures.same c.read_kept.ensures.blinds)

@@ -1,8 +1,8 @@
 use Rattle.std.proofs.Common.{◌≡◌, ◌≤◌, ◌+◌, ◌++◌, List, ℕ, length, refl, ap, sym, ◌∙◌, subst, arith, drop, length-append, length-drop}
 use Rattle.std.proofs.lemmas.Result.{err_from_is_err_and}
 use Rattle.pot_object.specs.Pieces.{pieces_of}
-use Rattle.pot_shared.proofs.BlindLemmas.{blinds_none, blinds_then}
-use Rattle.pot_store.proofs.FitLemmas.{pieces_hold}
+use Rattle.pot_shared.proofs.BlindLemmas.{blinds_fewer, blinds_none, blinds_then}
+use Rattle.pot_store.proofs.FitLemmas.{pieces_few, pieces_hold}
 use Rattle.pot_store.proofs.GatherLemmas.{behind_whole, take_long}
 use Rattle.pot_store.proofs.PieceLemmas.{FileSofar, file_begin, file_step, file_stop, file_end}
 use Rattle.pot_store.proofs.fetching.read_pieces.Goals as goal
@@ -44,7 +44,7 @@ loop-piece-preserved g c =
           object c.in_ok-object.ensures.read),
       omega (arith, room, file_room),
       omega (arith, long, before, was, now),
-      blinds_then c.loop-piece.invariant.5 c.read_piece.ensures.blinds,
+      blinds_then c.loop-piece.invariant.5 c.read_piece.ensures.blinds (omega arith),
     )
 
 pub returns-clause-read : goal.returns-clause-read
@@ -62,4 +62,15 @@ returns-clause-read g c =
     c.truncate.new.self.items all c.truncate.ensures.items (ap length c.truncate.ensures.items ∙ take_long c.loop-piece.bytes.items kept.length enough)
 
 pub returns-in_err-object-clause-blinds : goal.returns-in_err-object-clause-blinds
-returns-in_err-object-clause-blinds g c = blinds_then c.loop-piece.invariant.5 c.read_piece.ensures.blinds
+returns-in_err-object-clause-blinds g c =
+    let lt = c.loop-piece-test.true in
+    let count = c.count_pieces-piece-end.ensures.value in
+    let few = pieces_few c.args.kept.now.length c.requires.fits.long in
+    blinds_then c.loop-piece.invariant.5 c.read_piece.ensures.blinds (omega (arith, lt, count, few))
+
+pub returns-clause-blinds : goal.returns-clause-blinds
+returns-clause-blinds g c =
+    let bound = c.loop-piece.auto.piece-end in
+    let count = c.count_pieces-piece-end.ensures.value in
+    let few = pieces_few c.args.kept.now.length c.requires.fits.long in
+    blinds_fewer c.loop-piece.invariant.5 (omega (arith, bound, count, few))

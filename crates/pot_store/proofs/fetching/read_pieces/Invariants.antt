@@ -11,4 +11,4 @@ invariant-loop-piece g l =
     × (l.passes.index ≡ l.fn.passes.index)
     × FileSofar l.caller.job l.kept l.piece l.bytes.items l.fn.passes.groups l.passes.groups
     × (pieces_of l.kept.length * 864 ≤ vec_capacity l.bytes) × (vec_len l.bytes ≡ l.piece * 864)
-    × Blinds l.caller.job l.fn.pads l.pads l.fn.passes.groups l.passes.groups
+    × Blinds l.caller.job (128 * l.piece) l.fn.pads l.pads l.fn.passes.groups l.passes.groups

@@ -9,7 +9,7 @@ use Rattle.pot_store.specs.Visits.{Gone, came_of, place_in}
 use Rattle.pot_store.specs.Points.{came_in}
 use Rattle.pot_shared.specs.Blinds.{Blinds}
 use Rattle.pot_store.specs.Reads.{PointsTried}
-use Rattle.pot_shared.proofs.BlindLemmas.{blinds_none, blinds_then}
+use Rattle.pot_shared.proofs.BlindLemmas.{blinds_fewer, blinds_none, blinds_then}
 use Rattle.pot_store.proofs.FitLemmas.{current_fits, fragment_apart, has_slot}
 use Rattle.pot_store.proofs.NoteLemmas.{not_gone}
 use Rattle.pot_store.proofs.PointLemmas.{mends_end, mends_enough, mends_full, mends_pass, mends_step}
@@ -80,9 +80,9 @@ loop-x-preserved g c =
                 (mends_step c.args.caller.now.job kept.places c.args.from n need x points first c.loop-x.passes.groups (c.loop-x.invariant.2 first tried)
                 w.mend_point.new.points p w.mend_point.new.passes.groups (fragment_apart c.args.caller.now.vault.now.rack kept c.requires.fits c.args.from c.requires.fragment) c.loop-x-test.true at
                 (λ e. c.if-count-kept.false (c.count.ensures ∙ e)) (is_gone points x (sym c.known.ensures ∙ w.in-Gone.is)) w.if-not-mend_point.ensures.read)),
-            subst (λ (s : Pads). Blinds c.args.caller.now.job c.args.pads.now s c.args.passes.now.groups c.match-known.passes.groups) (sym w.pads-is)
-                (subst (λ r. Blinds c.args.caller.now.job c.args.pads.now w.mend_point.new.pads c.args.passes.now.groups r.groups) (sym w.passes-is)
-                (blinds_then c.loop-x.invariant.3 w.mend_point.ensures.blinds)),
+            subst (λ (s : Pads). Blinds c.args.caller.now.job (x + 1) c.args.pads.now s c.args.passes.now.groups c.match-known.passes.groups) (sym w.pads-is)
+                (subst (λ r. Blinds c.args.caller.now.job (x + 1) c.args.pads.now w.mend_point.new.pads c.args.passes.now.groups r.groups) (sym w.passes-is)
+                (blinds_then c.loop-x.invariant.3 w.mend_point.ensures.blinds (omega arith))),
           )
       | in_default w ↦ (
         subst (λ r. AreReady c.args.caller.now.vault.now.rack c.args.caller.now.vault.now.groups r.groups) (sym w.passes-is) c.loop-x.invariant.0,
@@ -92,8 +92,8 @@ loop-x-preserved g c =
             (subst (λ r. PointsTried c.args.caller.now.job kept.places c.args.from n need (x + 1) points first r.groups) (sym w.passes-is)
             (mends_pass c.args.caller.now.job kept.places c.args.from n need x points first c.loop-x.passes.groups (c.loop-x.invariant.2 first tried)
             (not_gone_there points x (λ e. w.in_default.not-Gone (c.known.ensures ∙ e))))),
-        subst (λ (s : Pads). Blinds c.args.caller.now.job c.args.pads.now s c.args.passes.now.groups c.match-known.passes.groups) (sym w.pads-is)
-            (subst (λ r. Blinds c.args.caller.now.job c.args.pads.now c.loop-x.pads c.args.passes.now.groups r.groups) (sym w.passes-is) c.loop-x.invariant.3),
+        subst (λ (s : Pads). Blinds c.args.caller.now.job (x + 1) c.args.pads.now s c.args.passes.now.groups c.match-known.passes.groups) (sym w.pads-is)
+            (subst (λ r. Blinds c.args.caller.now.job (x + 1) c.args.pads.now c.loop-x.pads c.args.passes.now.groups r.groups) (sym w.passes-is) (blinds_fewer c.loop-x.invariant.3 (omega arith))),
       )
     ]
 
@@ -106,4 +106,19 @@ returns-clause-read g c = λ first tried.
     (omega (arith, last, bound))
 
 pub returns-then-not-mend_point-clause-blinds : goal.returns-then-not-mend_point-clause-blinds
-returns-then-not-mend_point-clause-blinds g c = blinds_then c.loop-x.invariant.3 c.mend_point.ensures.blinds
+returns-then-not-mend_point-clause-blinds g c =
+    let lt = c.loop-x-test.true in
+    let few = (current_fits c.args.caller.now.vault.now.rack c.args.kept.now c.requires.fits).geometry.limits.shards in
+    blinds_then c.loop-x.invariant.3 c.mend_point.ensures.blinds (omega (arith, lt, few))
+
+pub returns-then-count-kept-clause-blinds : goal.returns-then-count-kept-clause-blinds
+returns-then-count-kept-clause-blinds g c =
+    let lt = c.loop-x-test.true in
+    let few = (current_fits c.args.caller.now.vault.now.rack c.args.kept.now c.requires.fits).geometry.limits.shards in
+    blinds_fewer c.loop-x.invariant.3 (omega (arith, lt, few))
+
+pub returns-clause-blinds : goal.returns-clause-blinds
+returns-clause-blinds g c =
+    let bound = c.loop-x.auto.x-end in
+    let few = (current_fits c.args.caller.now.vault.now.rack c.args.kept.now c.requires.fits).geometry.limits.shards in
+    blinds_fewer c.loop-x.invariant.3 (omega (arith, bound, few))

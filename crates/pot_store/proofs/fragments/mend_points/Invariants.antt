@@ -10,4 +10,4 @@ invariant-loop-x g l =
     × (l.passes.index ≡ l.fn.passes.index)
     × ((first : GroupPasses) → PointsTried l.caller.job l.kept.places l.from l.kept.geometry.shards l.kept.geometry.need 0 l.fn.points first l.fn.passes.groups
     → PointsTried l.caller.job l.kept.places l.from l.kept.geometry.shards l.kept.geometry.need l.x l.points first l.passes.groups)
-    × Blinds l.caller.job l.fn.pads l.pads l.fn.passes.groups l.passes.groups
+    × Blinds l.caller.job l.x l.fn.pads l.pads l.fn.passes.groups l.passes.groups

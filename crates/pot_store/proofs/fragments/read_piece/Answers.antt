@@ -1,6 +1,7 @@
 use Rattle.std.proofs.Common.{refl, ◌∙◌, arith}
 use Rattle.std.proofs.lemmas.Result.{err_from_is_err_and}
-use Rattle.pot_shared.proofs.BlindLemmas.{blinds_none, blinds_then}
+use Rattle.pot_shared.proofs.BlindLemmas.{blinds_fewer, blinds_none, blinds_then}
+use Rattle.pot_store.proofs.FitLemmas.{current_fits}
 use Rattle.pot_store.proofs.PieceLemmas.{piece_begin, piece_step, piece_stop}
 use Rattle.pot_store.proofs.fragments.read_piece.Goals as goal
 
@@ -30,8 +31,17 @@ loop-fragment-preserved g c =
       piece_step c.args.caller.now.job c.args.kept.now c.args.piece c.loop-fragment.fragment c.loop-fragment.rooms.fragments.items c.args.passes.now.groups c.loop-fragment.passes.groups
           c.read_fragment.new.passes.groups c.loop-fragment.invariant.2 c.read_fragment.new.rooms.fragments.items c.in_ok-read_fragment.ensures.read,
       omega (arith, long, next),
-      blinds_then c.loop-fragment.invariant.4 c.read_fragment.ensures.blinds,
+      blinds_then c.loop-fragment.invariant.4 c.read_fragment.ensures.blinds (omega arith),
     )
 
 pub returns-in_err-read_fragment-clause-blinds : goal.returns-in_err-read_fragment-clause-blinds
-returns-in_err-read_fragment-clause-blinds g c = blinds_then c.loop-fragment.invariant.4 c.read_fragment.ensures.blinds
+returns-in_err-read_fragment-clause-blinds g c =
+    let lt = c.loop-fragment-test.true in
+    let few = (current_fits c.args.caller.now.vault.now.rack c.args.kept.now c.requires.fits).geometry.limits.fragments.1 in
+    blinds_then c.loop-fragment.invariant.4 c.read_fragment.ensures.blinds (omega (arith, lt, few))
+
+pub returns-clause-blinds : goal.returns-clause-blinds
+returns-clause-blinds g c =
+    let bound = c.loop-fragment.auto.fragment-end in
+    let few = (current_fits c.args.caller.now.vault.now.rack c.args.kept.now c.requires.fits).geometry.limits.fragments.1 in
+    blinds_fewer c.loop-fragment.invariant.4 (omega (arith, bound, few))

@@ -10,4 +10,4 @@ invariant-loop-fragment g l =
     × (l.passes.index ≡ l.fn.passes.index)
     × PieceSofar l.caller.job l.kept l.piece l.fragment l.rooms.fragments.items l.fn.passes.groups l.passes.groups
     × (vec_len l.rooms.fragments ≡ l.fragment * 928)
-    × Blinds l.caller.job l.fn.pads l.pads l.fn.passes.groups l.passes.groups
+    × Blinds l.caller.job (16 * l.fragment) l.fn.pads l.pads l.fn.passes.groups l.passes.groups

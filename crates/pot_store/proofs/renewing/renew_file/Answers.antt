@@ -5,7 +5,7 @@ use Rattle.pot_shared.specs.Catalogs.{IndexPasses}
 use Rattle.pot_shared.specs.IndexCalls.{IndexCall, MayRenewBy, RenewsSplit}
 use Rattle.pot_shared.specs.Connections.{Bound, bound, knows}
 use Rattle.pot_shared.specs.Works.{known, section_of, JobWroteOnly, JobOnlyWriter, IsSettingOf}
-use Rattle.pot_shared.proofs.BlindLemmas.{blinds_quiet, blinds_then, none_known, none_more}
+use Rattle.pot_shared.proofs.BlindLemmas.{blinds_quiet, none_known, none_more, quiet_then, then_quiet}
 use Rattle.pot_shared.proofs.ConnectionLemmas.{groups_at, index_at, ready_at, tied_at}
 use Rattle.pot_store.specs.Fetches.{AreFilled}
 use Rattle.pot_store.specs.Renewals.{PutsSplit, RenewsFrom, RenewRow}
@@ -207,11 +207,11 @@ returns-in-Ok-renew-clause-blinds g c =
     let g3 = (knows c.put_split.new.connection).groups in
     let index = c.put_split.ensures.worked.index ∙ c.read_kept.ensures.read.index in
     let same3 = c.put_split.ensures.worked.same ∙ same2 in
-    blinds_then (blinds_quiet (none_known b.job b.vault.rack b.vault.groups g0 g1 s0.ready c.find.ensures.groups))
-    (blinds_then (groups_at c.find.ensures.same c.read_kept.ensures.blinds) (blinds_quiet
+    quiet_then (none_known b.job b.vault.rack b.vault.groups g0 g1 s0.ready c.find.ensures.groups)
+    (then_quiet (groups_at c.find.ensures.same c.read_kept.ensures.blinds)
     (none_more b.job g2 g3 (knows c.renew.new.self).groups (none_split b.vault.rack c.args.geometry.now b.job c.deref.result.now c.args.pads g2 g3 (groups_at same2 c.put_split.ensures.worked) c.put_split.result
     (subst (λ (x : Bound). PutsSplit x.vault.rack c.args.geometry.now x.job c.deref.result.now c.args.pads c.put_split.result g2 g3) same2 c.put_split.ensures.puts))
-    (none_known b.job b.vault.rack b.vault.groups g3 (knows c.renew.new.self).groups (ready_at c.put_split.new.connection same3) c.renew.ensures.groups))))
+    (none_known b.job b.vault.rack b.vault.groups g3 (knows c.renew.new.self).groups (ready_at c.put_split.new.connection same3) c.renew.ensures.groups)))
 
 pub returns-clause-worked : goal.returns-clause-worked
 returns-clause-worked g c =
@@ -271,11 +271,11 @@ returns-clause-blinds g c =
     let g3 = (knows c.put_split.new.connection).groups in
     let index = c.put_split.ensures.worked.index ∙ c.read_kept.ensures.read.index in
     let same3 = c.put_split.ensures.worked.same ∙ same2 in
-    blinds_then (blinds_quiet (none_known b.job b.vault.rack b.vault.groups g0 g1 s0.ready c.find.ensures.groups))
-    (blinds_then (groups_at c.find.ensures.same c.read_kept.ensures.blinds) (blinds_quiet
+    quiet_then (none_known b.job b.vault.rack b.vault.groups g0 g1 s0.ready c.find.ensures.groups)
+    (then_quiet (groups_at c.find.ensures.same c.read_kept.ensures.blinds)
     (none_more b.job g2 g3 (knows c.renew.new.self).groups (none_split b.vault.rack c.args.geometry.now b.job c.deref.result.now c.args.pads g2 g3 (groups_at same2 c.put_split.ensures.worked) c.put_split.result
     (subst (λ (x : Bound). PutsSplit x.vault.rack c.args.geometry.now x.job c.deref.result.now c.args.pads c.put_split.result g2 g3) same2 c.put_split.ensures.puts))
-    (none_known b.job b.vault.rack b.vault.groups g3 (knows c.renew.new.self).groups (ready_at c.put_split.new.connection same3) c.renew.ensures.groups))))
+    (none_known b.job b.vault.rack b.vault.groups g3 (knows c.renew.new.self).groups (ready_at c.put_split.new.connection same3) c.renew.ensures.groups)))
 
 pub returns-in-Err-clause-blinds : goal.returns-in-Err-clause-blinds
 returns-in-Err-clause-blinds g c =
@@ -299,7 +299,7 @@ returns-in-Err-read_kept-clause-blinds g c =
     let b = bound s0 in
     let g0 = (knows s0).groups in
     let g1 = (knows c.find.new.self).groups in
-    blinds_then (blinds_quiet (none_known b.job b.vault.rack b.vault.groups g0 g1 s0.ready c.find.ensures.groups)) (groups_at c.find.ensures.same c.read_kept.ensures.blinds)
+    quiet_then (none_known b.job b.vault.rack b.vault.groups g0 g1 s0.ready c.find.ensures.groups) (groups_at c.find.ensures.same c.read_kept.ensures.blinds)
 
 pub returns-in-Err-put_split-clause-blinds : goal.returns-in-Err-put_split-clause-blinds
 returns-in-Err-put_split-clause-blinds g c =
@@ -312,7 +312,7 @@ returns-in-Err-put_split-clause-blinds g c =
     let same2 = c.read_kept.ensures.read.same ∙ c.find.ensures.same in
     let g3 = (knows c.put_split.new.connection).groups in
     let index = c.put_split.ensures.worked.index ∙ c.read_kept.ensures.read.index in
-    blinds_then (blinds_quiet (none_known b.job b.vault.rack b.vault.groups g0 g1 s0.ready c.find.ensures.groups))
-    (blinds_then (groups_at c.find.ensures.same c.read_kept.ensures.blinds) (blinds_quiet
+    quiet_then (none_known b.job b.vault.rack b.vault.groups g0 g1 s0.ready c.find.ensures.groups)
+    (then_quiet (groups_at c.find.ensures.same c.read_kept.ensures.blinds)
     (none_split b.vault.rack c.args.geometry.now b.job c.deref.result.now c.args.pads g2 g3 (groups_at same2 c.put_split.ensures.worked) c.put_split.result
-    (subst (λ (x : Bound). PutsSplit x.vault.rack c.args.geometry.now x.job c.deref.result.now c.args.pads c.put_split.result g2 g3) same2 c.put_split.ensures.puts))))
+    (subst (λ (x : Bound). PutsSplit x.vault.rack c.args.geometry.now x.job c.deref.result.now c.args.pads c.put_split.result g2 g3) same2 c.put_split.ensures.puts)))

@@ -1,7 +1,7 @@
 use Rattle.std.proofs.Common.{◌≡◌, inl, inr, false, subst, ◌∙◌, arith}
 use Rattle.std.proofs.lemmas.Bool.{cases_lt}
 use Rattle.pot_outside.specs.Rooms.{room_transition}
-use Rattle.pot_session.proofs.RecoveringLemmas.{held_more, some_failed, were_read}
+use Rattle.pot_session.proofs.RecoveringLemmas.{all_read, held_more, some_failed, were_read}
 use Rattle.pot_session.proofs.Counts.{err_again}
 use Rattle.pot_session.proofs.recovery.recovering.read_archives.Goals as goal
 
@@ -36,3 +36,8 @@ pub returns-in-Err-clause-read : goal.returns-in-Err-clause-read
 returns-in-Err-clause-read g c = λ told.
     were_read c.args.task.now.archives c.loop-number.number (g.R.Room.meaning c.args.room.now) (g.R.Room.meaning c.loop-number.room) (g.R.Room.meaning c.read_archive.new.room) (c.loop-number.invariant.held told).read
     c.loop-number.invariant.others c.loop-number.invariant.own (λ n ne. (c.read_archive.ensures.others n ne).0) (c.read_archive.ensures.read told)
+
+pub returns-clause-read : goal.returns-clause-read
+returns-clause-read g c = λ told.
+    all_read c.args.task.now.archives c.loop-number.number (g.R.Room.meaning c.args.room.now) (g.R.Room.meaning c.loop-number.room) (omega (arith, c.loop-number-test.false)) (c.loop-number.invariant.held told).read
+    c.loop-number.invariant.others

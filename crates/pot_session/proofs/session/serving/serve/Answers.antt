@@ -108,7 +108,7 @@ returns-clause-serves g c =
     subst (λ m. IsMeant m ((g.R.Room.meaning c.close_session-closed.new.room).means n)) (c.open_session.ensures.untouched n none)
     (subst (λ m. IsMeant ((g.R.Room.meaning c.open_session.new.room).means n) m) (sym (c.close_session-closed.ensures.untouched n still.0)) still.1)))
     c.status_after.ensures c.requires.together c.requires.space
-    (λ n. (let e = had n in let one = out_apart (g.R.Room.meaning c.work-ending.new.room) numbers outs n in omega (arith, e, one))) (λ n lt. had n ∙ lows n lt)
+    (λ n. (let e = had n in let one = out_apart (g.R.Room.meaning c.work-ending.new.room) numbers outs n in omega (arith, e, one))) (λ n lt. had n ∙ lows n lt) c.work-ending.ensures.blinds
 
 pub returns-clause-which : goal.returns-clause-which
 returns-clause-which g c = subst IsEnd (sym c.status_after.ensures) (end_of c.work-ending.result c.close_session-closed.result c.close_session-closed.ensures.which)

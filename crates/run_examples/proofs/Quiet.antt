@@ -32,7 +32,8 @@ use Rattle.pot_shared.specs.Leaving.{LeavesGroup}
 use Rattle.pot_execution.specs.Execution.{HasExecution}
 use Rattle.pot_session.specs.Desks.{begun}
 use Rattle.pot_session.specs.Making.{empty_contents}
-use Rattle.pot_session.specs.Serving.{IsInRoom, Leaves}
+use Rattle.pot_session.specs.Serving.{IsInRoom, Leaves, ShareNone}
+use Rattle.pot_shared.specs.Hands.{AreApart}
 use Rattle.pot_world.specs.Kept.{IsKept}
 use Rattle.pot_world.specs.Reached.{EachGroup, Reaches, first_group, first_groups, first_site}
 use Rattle.pot_world.proofs.Reaching.{reached_keeps}
@@ -48,10 +49,12 @@ use Rattle.pot_image.specs.Rules.{IsRecordOver}
 use Rattle.pot_shared.specs.Groups.{IsOpened}
 use Rattle.pot_execution.specs.Execution.{IsAtWork}
 use Rattle.pot_refinement.specs.Refinement.{IsEmpty, is_clean}
-use Rattle.pot_session.specs.Serving.{RoseInRoom}
-use Rattle.pot_theorem.specs.Quiet.{QuietSession, small}
+use Rattle.pot_session.specs.Serving.{RoseInRoom, RoseOftenInRoom}
+use Rattle.pot_shared.proofs.OpeningFew.{none_served}
+use Rattle.pot_shared.proofs.Times.{times_there}
+use Rattle.run_examples.specs.Quiet.{QuietSession, small}
 use Rattle.pot_theorem.specs.Sessions.{AreInARow, ClosedSession}
-use Rattle.pot_theorem.proofs.Hard.{the_hard_property}
+use Rattle.pot_theorem.specs.Hard.{TheHardProperty}
 
 -- THE RACK AND ITS GROUP
 is_rack : IsRack small
@@ -63,44 +66,44 @@ is_rack = record {
   stripes = (omega arith, omega arith);
 }
 
-abbrev bare : Table
+abbrev pub bare : Table
 bare = empty_table small 0
 
-is_table : IsTable bare
+pub is_table : IsTable bare
 is_table = empty_is_table small 0 is_rack
 
-void : (s k : ℕ) → slot_at bare s k ≡ Void
+pub void : (s k : ℕ) → slot_at bare s k ≡ Void
 void s k = empty_void small 0 is_rack s k
 
-none_live : (s k : ℕ) → IsTrue (is_live (slot_at bare s k)) → ⊥
+pub none_live : (s k : ℕ) → IsTrue (is_live (slot_at bare s k)) → ⊥
 none_live s k live = no_true (subst (λ (x : SlotState). IsTrue (is_live x)) (void s k) live)
   where
     no_true : IsTrue (is_live Void) → ⊥
     no_true h = cc
 
-kept : IsKept (first_group small 0)
+pub kept : IsKept (first_group small 0)
 unfolding EachGroup first_groups Reaches
 kept = (reached_keeps small [] (first_site small) is_rack refl).0.0
 
 -- AN OPENING THAT FINDS NOTHING
 
-abbrev empty_state : GroupState
+abbrev pub empty_state : GroupState
 empty_state = record { table = bare; log = []; held = λ n k. None; heard = λ n. []; flights = [] }
 
-abbrev never : ℕ → ℕ → Bool
+abbrev pub never : ℕ → ℕ → Bool
 never s k = false
 
-none_logged : opening (width bare) bare.stripes never never ≡ []
+pub none_logged : opening (width bare) bare.stripes never never ≡ []
 unfolding opening entries_where
 none_logged = refl
 
-nothing_is : {X : Type 0} {b : List ℕ} → None ≡ Some b → X
+pub nothing_is : {X : Type 0} {b : List ℕ} → None ≡ Some b → X
 nothing_is e = absurd (cc)
 
-not_both : {X : Type 0} → false ≡ true → X
+pub not_both : {X : Type 0} → false ≡ true → X
 not_both e = absurd (cc)
 
-opens_still : StartStep empty_state empty_state
+unfoldable pub opens_still : StartStep empty_state empty_state
 opens_still = record {
   no_relays = refl;
   no_flights = refl;
@@ -118,7 +121,7 @@ opens_still = record {
   loses = λ n k b e. e;
 }
 
-stands : Stands bare (λ n k. None) []
+pub stands : Stands bare (λ n k. None) []
 stands = start_makes empty_state empty_state opens_still is_table
 
 -- THE GROUP AS IT IS LEFT
@@ -142,7 +145,7 @@ abbrev view : GroupView
 view = record { number = 0; first = bare; table = bare; log = []; flights = []; blinds = []; shelves = shelves }
 
 -- its columns have the archives 0 and 1
-home_is : (k n : ℕ) → k < width bare → IsTrue (names (column_at bare k) n) → Contains (archives_of bare [] k) n
+pub home_is : (k n : ℕ) → k < width bare → IsTrue (names (column_at bare k) n) → Contains (archives_of bare [] k) n
 home_is zero n lt h = (0, omega arith, is 0 n h)
   where
     is : (a b : ℕ) → (a == b) ≡ true → a ≡ b
@@ -201,13 +204,13 @@ execution = record {
 
 -- THE SESSION
 
-abbrev empty_room : RoomState
+abbrev pub empty_room : RoomState
 empty_room = record { out = λ n. false; means = λ n. nothing; lent = λ n. 0; faults = 0; failures = 0 }
 
 abbrev still_room : Transition RoomState
 still_room = record { tells = true; before = empty_room; after = empty_room }
 
-abbrev first_image : Contents
+abbrev pub first_image : Contents
 first_image = begun (empty_contents small)
 
 abbrev no_story : Section
@@ -237,7 +240,7 @@ left = record {
   archives = λ n h t back. record { blocks = λ k. refl; history = refl; sums = refl; faults = refl; losses = refl };
 }
 
-none_there : {X A : Type 0} (g : ℕ) (x : A) → slice_get [] g ≡ Some x → X
+pub none_there : {X A : Type 0} (g : ℕ) (x : A) → slice_get [] g ≡ Some x → X
 none_there g x e = absurd (cc)
 
 each_left : (g : ℕ) (t u : Table) (log : List Entry) → slice_get (bare ∷ []) g ≡ Some t → slice_get (bare ∷ []) g ≡ Some u → slice_get ([] ∷ []) g ≡ Some log
@@ -252,11 +255,11 @@ each_log : (g : ℕ) (log : List Entry) → slice_get ([] ∷ []) g ≡ Some log
 each_log zero log e = sym (same_Some [] log e)
 each_log (suc g) log e = none_there g log e
 
-none_split : (x y : List Entry) (e : Entry) → [] ≡ x ++ e ∷ y → ⊥
+pub none_split : (x y : List Entry) (e : Entry) → [] ≡ x ++ e ∷ y → ⊥
 none_split [] y e is = cc
 none_split (z ∷ x) y e is = cc
 
-opened : IsOpened (λ n. nothing) (RoseInRoom (λ n. nothing) (λ n. nothing) []) bare []
+opened : IsOpened (λ n. nothing) (RoseInRoom (λ n. nothing) (λ n. nothing) []) (RoseOftenInRoom (λ n. nothing) (λ n. nothing) []) bare []
 unfolding opens_still
 opened = record {
   read = λ s k. None;
@@ -265,12 +268,13 @@ opened = record {
   found = λ s k b ls lk e. nothing_is e;
   finds = opens_still.finds;
   missed = λ s k ls lk e sound. not_both e;
+  few = λ slots missed n has back. inl (inl (let z = none_served bare slots bare.stripes n (λ s c ls lc e. not_both (missed s c ls lc e).0) in omega (arith, z)));
   breaks = opens_still.breaks;
   is = sym none_logged;
 }
 
-each_opened : (g : ℕ) (t : Table) → slice_get (bare ∷ []) g ≡ Some t → IsOpened (λ n. nothing) (RoseInRoom (λ n. nothing) (λ n. nothing) []) t []
-each_opened zero t e = subst (λ x. IsOpened (λ n. nothing) (RoseInRoom (λ n. nothing) (λ n. nothing) []) x []) (same_Some bare t e) opened
+each_opened : (g : ℕ) (t : Table) → slice_get (bare ∷ []) g ≡ Some t → IsOpened (λ n. nothing) (RoseInRoom (λ n. nothing) (λ n. nothing) []) (RoseOftenInRoom (λ n. nothing) (λ n. nothing) []) t []
+each_opened zero t e = subst (λ x. IsOpened (λ n. nothing) (RoseInRoom (λ n. nothing) (λ n. nothing) []) (RoseOftenInRoom (λ n. nothing) (λ n. nothing) []) x []) (same_Some bare t e) opened
 each_opened (suc g) t e = none_there g t e
 
 leaves : Leaves still_room [] first_image first_image no_story
@@ -291,7 +295,7 @@ none_ascend : Ascends []
 unfolding IsStrictlySortedBy
 none_ascend = tt
 
-fits : FitsTogether first_image
+pub fits : FitsTogether first_image
 fits = record {
   rack = is_rack;
   tables = record {
@@ -306,10 +310,20 @@ fits = record {
   logs = refl;
 }
 
-quiet : ClosedSession
-quiet = record { first = first_image; last = first_image; room = still_room; missing = []; story = no_story; fits = fits; told = refl; leaves = leaves }
+-- two archives, and none came
+pub once : AreApart (0 ∷ 1 ∷ [])
+once zero = omega arith
+once (suc zero) = omega arith
+once (suc (suc n)) =
+    (let a = times_there 0 (suc (suc n)) (λ e. omega (arith, e)) in let b = times_there 1 (suc (suc n)) (λ e. omega (arith, e)) in omega (arith, a, b))
 
-empty_archive : IsEmpty nothing
+apart : ShareNone first_image first_image
+apart = record { had = once; left = once }
+
+quiet : ClosedSession
+quiet = record { first = first_image; last = first_image; room = still_room; missing = []; story = no_story; fits = fits; told = refl; leaves = leaves; apart = apart }
+
+pub empty_archive : IsEmpty nothing
 empty_archive = record { held = λ slot lt. refl; heard = refl }
 
 -- WHAT IS ASKED OF IT
@@ -325,11 +339,10 @@ in_a_row = record {
     has_room = All-cons (λ (log : List Entry). length log < log_bound) [] [] (omega arith) (All-nil (λ (log : List Entry). length log < log_bound));
     empty = λ n h. empty_archive;
     unused = λ n h. absurd (none_contained n h);
-    apart = λ n. omega arith;
   };
   go_on = tt;
 }
 
-pub quiet_session : QuietSession
+pub quiet_session : TheHardProperty → QuietSession
 unfolding quiet
-quiet_session = (quiet, refl, in_a_row, the_hard_property quiet [] in_a_row)
+quiet_session law = (quiet, refl, in_a_row, law quiet [] in_a_row)

@@ -1,0 +1,82 @@
+use Rattle.std.proofs.Common.{◌≡◌, ◌↔◌, inl, ℕ, List, map, refl, sym, subst, lit<}
+use Rattle.std.proofs.lemmas.Result.{on_ok_weaker, IfErr-weaker}
+use Rattle.pot_chains.specs.Listed.{IsIn}
+use Rattle.pot_shard.specs.declared.shard.Shard.{Shard}
+use Rattle.pot_recover.specs.Groups.{IsHoldable}
+use Rattle.pot_recover.specs.Held.{IsHeld}
+use Rattle.pot_recover.specs.HeldShards.{shard_of, HaveBytes}
+use Rattle.pot_recover.specs.declared.held.Held.{Held}
+use Rattle.pot_recover.proofs.TopLemmas.{held_holdable, if_ok_both}
+use Rattle.pot_recover.proofs.OpenTop.{chains_counted, chains_wide, found_open, open_grammar, are_recovered, are_within, are_too_wide}
+use Rattle.pot_recover.proofs.top.recover_open.Goals as goal
+
+-- what is held, as the search sees it
+same_here : (blocks : List (List ℕ)) (bits : ℕ) (now held : List Held) → now ≡ held → ((s : Shard) → IsIn (map (shard_of bits) held) s ↔ IsHeld blocks bits s)
+    → (s : Shard) → IsIn (map (shard_of bits) now) s ↔ IsHeld blocks bits s
+same_here blocks bits now held e each s = subst (λ (l : List Held). IsIn (map (shard_of bits) l) s ↔ IsHeld blocks bits s) (sym e) (each s)
+
+holdable_here : (blocks : List (List ℕ)) (bits : ℕ) (now held : List Held) → now ≡ held → ((s : Shard) → IsIn (map (shard_of bits) held) s ↔ IsHeld blocks bits s) → HaveBytes held
+    → (s : Shard) → IsIn (map (shard_of bits) now) s → IsHoldable s
+holdable_here blocks bits now held e each bytes =
+    held_holdable blocks bits now (same_here blocks bits now held e each) (subst HaveBytes (sym e) bytes)
+
+pub open_contents-requires-clause-shards : goal.open_contents-requires-clause-shards
+open_contents-requires-clause-shards c =
+    holdable_here c.args.blocks.now c.args.bits c.deref.result.now c.in-Ok.held.items c.deref.ensures.value c.in-Ok.ensures.each c.in-Ok.ensures.bytes
+
+pub from_contents-requires-clause-contents : goal.from_contents-requires-clause-contents
+from_contents-requires-clause-contents c =
+    let blocks = c.args.blocks.now in
+    let bits = c.args.bits in
+    let now = c.deref.result.now in
+    let same = same_here blocks bits now c.in-Ok.held.items c.deref.ensures.value c.in-Ok.ensures.each in
+    let holdable = holdable_here blocks bits now c.in-Ok.held.items c.deref.ensures.value c.in-Ok.ensures.each c.in-Ok.ensures.bytes in
+    open_grammar blocks bits c.in-Ok-open_contents.contents.items
+    (found_open blocks bits (map (shard_of bits) now) same c.open_contents.new.count c.in-Ok-open_contents.contents.items c.in-Ok-open_contents.ensures.searched)
+
+pub returns-in-Ok-open_contents-clause-objects : goal.returns-in-Ok-open_contents-clause-objects
+returns-in-Ok-open_contents-clause-objects c =
+    let blocks = c.args.blocks.now in
+    let bits = c.args.bits in
+    let now = c.deref.result.now in
+    let same = same_here blocks bits now c.in-Ok.held.items c.deref.ensures.value c.in-Ok.ensures.each in
+    let holdable = holdable_here blocks bits now c.in-Ok.held.items c.deref.ensures.value c.in-Ok.ensures.each c.in-Ok.ensures.bytes in
+    let closed = found_open blocks bits (map (shard_of bits) now) same c.open_contents.new.count c.in-Ok-open_contents.contents.items c.in-Ok-open_contents.ensures.searched in
+    if_ok_both c.from_contents.result _ _ _ (λ objects each order. are_recovered blocks bits c.in-Ok-open_contents.contents.items closed objects each order)
+    c.from_contents.ensures.objects c.from_contents.ensures.order
+
+pub returns-in-Ok-open_contents-clause-within : goal.returns-in-Ok-open_contents-clause-within
+returns-in-Ok-open_contents-clause-within c =
+    let blocks = c.args.blocks.now in
+    let bits = c.args.bits in
+    let now = c.deref.result.now in
+    let same = same_here blocks bits now c.in-Ok.held.items c.deref.ensures.value c.in-Ok.ensures.each in
+    let holdable = holdable_here blocks bits now c.in-Ok.held.items c.deref.ensures.value c.in-Ok.ensures.each c.in-Ok.ensures.bytes in
+    let closed = found_open blocks bits (map (shard_of bits) now) same c.open_contents.new.count c.in-Ok-open_contents.contents.items c.in-Ok-open_contents.ensures.searched in
+    let chains = chains_counted blocks bits (map (shard_of bits) now) same c.open_contents.new.count c.in-Ok-open_contents.contents.items c.in-Ok-open_contents.ensures.searched
+    c.in-Ok-open_contents.ensures.within in
+    on_ok_weaker c.from_contents.result (λ few. are_within blocks bits c.in-Ok-open_contents.contents.items closed c.open_contents.new.count chains c.in-Ok-open_contents.ensures.within few)
+    c.from_contents.ensures.within
+
+pub returns-in-Ok-open_contents-clause-wide : goal.returns-in-Ok-open_contents-clause-wide
+returns-in-Ok-open_contents-clause-wide c =
+    let blocks = c.args.blocks.now in
+    let bits = c.args.bits in
+    let now = c.deref.result.now in
+    let same = same_here blocks bits now c.in-Ok.held.items c.deref.ensures.value c.in-Ok.ensures.each in
+    let holdable = holdable_here blocks bits now c.in-Ok.held.items c.deref.ensures.value c.in-Ok.ensures.each c.in-Ok.ensures.bytes in
+    let closed = found_open blocks bits (map (shard_of bits) now) same c.open_contents.new.count c.in-Ok-open_contents.contents.items c.in-Ok-open_contents.ensures.searched in
+    let chains = chains_counted blocks bits (map (shard_of bits) now) same c.open_contents.new.count c.in-Ok-open_contents.contents.items c.in-Ok-open_contents.ensures.searched
+    c.in-Ok-open_contents.ensures.within in
+    IfErr-weaker c.from_contents.result _ _
+    (λ fault wide. are_too_wide blocks bits c.in-Ok-open_contents.contents.items closed c.open_contents.new.count fault chains c.in-Ok-open_contents.ensures.within wide)
+    c.from_contents.ensures.wide
+
+pub returns-in-Err-Wide-clause-wide : goal.returns-in-Err-Wide-clause-wide
+returns-in-Err-Wide-clause-wide c =
+    let blocks = c.args.blocks.now in
+    let bits = c.args.bits in
+    let now = c.deref.result.now in
+    let same = same_here blocks bits now c.in-Ok.held.items c.deref.ensures.value c.in-Ok.ensures.each in
+    let holdable = holdable_here blocks bits now c.in-Ok.held.items c.deref.ensures.value c.in-Ok.ensures.each c.in-Ok.ensures.bytes in
+    (chains_wide blocks bits (map (shard_of bits) now) same (c.in-Err-Wide.ensures.wide c.in-Err-Wide.field-0-is), inl (lit< tt, refl))

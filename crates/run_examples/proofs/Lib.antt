@@ -1,0 +1,2 @@
+pub mod OnePut
+pub mod Quiet
