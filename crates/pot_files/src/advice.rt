@@ -16,13 +16,13 @@ pub fn advice_at(status: u8) -> Option<&'static str>
             "potshards: standard input or the system's random bytes could not be read: nothing was stored; give it an input that can be read, and run it again",
         ),
         5 => Some(
-            "potshards: standard output could not be written: commands may have been worked without their replies; give it an output that is open and has room, and ask again",
+            "potshards: standard output could not be written: commands may have been worked without their replies, and without --careful yes what they stored may be lost; give it an output that is open and has room, and see what list names",
         ),
         6 => Some(
             "potshards: the desk could not be locked, read or replaced: see that no other run works in this folder and that desk.pss and desk.lock can be written and desk.psi can be read, and run it again; what it stored may have to be stored again",
         ),
         8 => Some(
-            "potshards: an archive file could not be opened, read or synced: see that each archive-N can be read and written and that its disk has room, and run it again; what it stored may have to be stored again",
+            "potshards: an archive file could not be opened, read or synced: see that each archive-N can be read and written and that its disk has room, and run it again; without --careful yes what it said was stored may have to be stored again",
         ),
         70 => Some(
             "potshards: memory ran out: give it more memory or a shorter script, and run it again; what it stored may have to be stored again",

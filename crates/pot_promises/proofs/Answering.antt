@@ -1,5 +1,5 @@
 -- A run whose words, image and script are in their grammars answers all commands.
-use Rattle.std.proofs.Common.{◌≡◌, inl, inr, ℕ, List, Option, Some, Result, Ok, Err, refl, ap, sym, ◌∙◌, subst, arith, MatchResult}
+use Rattle.std.proofs.Common.{◌≡◌, inl, inr, ℕ, Bool, List, Option, Some, Result, Ok, Err, refl, ap, sym, ◌∙◌, subst, arith, MatchResult}
 use Rattle.std.specs.Prelude.{IsTrue, None, length}
 use Rattle.std.proofs.lemmas.Option.{same_Some}
 use Rattle.pot_outside.specs.Accounts.{Transition, held_in}
@@ -214,9 +214,9 @@ module _ (words : List Text) (drawn : List ℕ) (seen : Seen) (answer : Status) 
       (subst (λ r. RefusesScript r seen.source s) rack refused) is
   stops_not s (AtOpening j others of k image keeps) is = at_keeping answer no_fault_said had_memory s k is
 
-  held_well : (seed : List ℕ) → Holds seed seen answer → IsDone answer
-  held_well seed (Stopped s stops refuses same) = absurd (refused_so answer no_fault_said had_memory seen.sink s refuses (stops_not s stops))
-  held_well seed (Served j others of rules whole serves ends untouched) = ended_well answer ends no_fault_said had_memory
+  held_well : (seed : List ℕ) (careful : Bool) → Holds seed careful seen answer → IsDone answer
+  held_well seed careful (Stopped s stops refuses same) = absurd (refused_so answer no_fault_said had_memory seen.sink s refuses (stops_not s stops))
+  held_well seed careful (Served j others of rules whole serves ends untouched) = ended_well answer ends no_fault_said had_memory
 
   abbrev Answers : Type 0
   Answers = IsDone answer × ((seed : List ℕ) × AsksSession words drawn seed × RanAs seed seen)
@@ -231,8 +231,8 @@ module _ (words : List Text) (drawn : List ℕ) (seen : Seen) (answer : Status) 
   answered run spells (Generating n other unread generates same room) = absurd (cc (one_kind words (task.Run run) (task.Generate n) spells other))
   answered run spells (Session that spelled it) =
       let seed = seed_of that drawn in
-      let done = held_well seed it in
-      (done, (seed, (that, spelled, refl), runs_are_sessions seed seen answer it done desk_told))
+      let done = held_well seed that.careful it in
+      (done, (seed, (that, spelled, refl), runs_are_sessions seed that.careful seen answer it done desk_told))
 
 pub runs_are_answered : RunsAreAnswered
 runs_are_answered words drawn seen answer it source_told desk_told given (run, spells, is) i holds_it goes_on steps read no_fault_said had_memory =
@@ -308,9 +308,9 @@ module _ (answer : Status) (refused : answer ≡ status.ImageRefused) where
     stopping s (AtScript j goes holds_that why same) is = script_reads j.rack seen.source s why is
     stopping s (AtOpening j others of k image keeps) is = keeping s k is
 
-    held_not : (seed : List ℕ) → Holds seed seen answer → ⊥
-    held_not seed (Stopped s stops refuses same) = refusing seen.sink s refuses (stopping s stops)
-    held_not seed (Served j others of rules whole serves ends untouched) = ends_not ends
+    held_not : (seed : List ℕ) (careful : Bool) → Holds seed careful seen answer → ⊥
+    held_not seed careful (Stopped s stops refuses same) = refusing seen.sink s refuses (stopping s stops)
+    held_not seed careful (Served j others of rules whole serves ends untouched) = ends_not ends
 
     run_not : (words : List Text) (drawn : List ℕ) (run : Run) → SpellTask words (task.Run run) → Runs words drawn seen answer → ⊥
     run_not words drawn run spells (Nothing none unread refuses same room) = none (task.Run run) spells
@@ -320,7 +320,7 @@ module _ (answer : Status) (refused : answer ≡ status.ImageRefused) where
     run_not words drawn run spells (Recovering r that unread recovers same) = absurd (cc (one_kind words (task.Run run) (task.Recover r) spells that))
     run_not words drawn run spells (Auditing a that unread audits same room) = absurd (cc (one_kind words (task.Run run) (task.Audit a) spells that))
     run_not words drawn run spells (Generating n that unread generates same room) = absurd (cc (one_kind words (task.Run run) (task.Generate n) spells that))
-    run_not words drawn run spells (Session that spelled it) = held_not (seed_of that drawn) it
+    run_not words drawn run spells (Session that spelled it) = held_not (seed_of that drawn) that.careful it
 
 pub never_refused : NeverRefused
 never_refused words drawn seen answer runs told left has run spells refused = run_not answer refused seen told left (has_read seen.desk.before.held left has) words drawn run spells runs

@@ -5,6 +5,7 @@ use Rattle.std.specs.List.{AllByRecursion}
 use Rattle.std.proofs.lemmas.List.Elements.{Contains-append_left}
 use Rattle.pot_bytes.specs.Digests.{digest_of}
 use Rattle.pot_bytes.specs.Rack.{log_bound}
+use Rattle.pot_bytes.specs.declared.digest.Digest.{Digest}
 use Rattle.pot_bytes.proofs.Elements.{element_at, parted_at}
 use Rattle.pot_outside.specs.Accounts.{Transition}
 use Rattle.pot_outside.specs.Rooms.{RoomState}
@@ -26,6 +27,7 @@ use Rattle.pot_script.specs.declared.reply.Reply.TheVariants as replies
 use Rattle.pot_script.specs.Steps.{IsWholeStep}
 use Rattle.pot_image.specs.Images.{Contents}
 use Rattle.pot_image.specs.Rules.{FitsTogether}
+use Rattle.pot_replies.specs.Digests.{NoTwoAlike}
 use Rattle.pot_replies.specs.Fetches.{Found, IsFetchLogFull}
 use Rattle.pot_replies.specs.Sections.{Section, Follows, MovesThenRest, mine, work_of}
 use Rattle.pot_replies.specs.Sessions.{Replied}
@@ -37,12 +39,14 @@ use Rattle.pot_session.specs.Losses.{BeginWith}
 use Rattle.pot_session.specs.Serving.{Leaves, setting_of}
 use Rattle.pot_promises.specs.Answers.{IsAnswered, job_at}
 use Rattle.pot_promises.specs.Chains.{IsSession}
-use Rattle.pot_promises.specs.Fetched.{Before, FetchAnswers, HasPlaceIn, Here, IsFull, SaysOf, WasStored}
+use Rattle.pot_promises.specs.Fetched.{Before, FetchAnswers, HasPlaceIn, Here, IsFull, SaysOf, WasStored, blocks_put}
+use Rattle.pot_promises.specs.Odds.{WasOdd}
 use Rattle.pot_promises.proofs.Faulting.{faults_are_counted}
 use Rattle.pot_promises.proofs.Giving.{first_names, led, names_of, published_in, same_text, stored_keeps, transition}
 use Rattle.pot_promises.proofs.Keeping.{Has, found_digest, published_has, still_has}
 use Rattle.pot_promises.proofs.Losing.{found_fits, stands_in, swaps_at, worked_swaps}
 use Rattle.pot_promises.proofs.Odds.{odd_reads}
+use Rattle.pot_promises.proofs.OddsLater.{never_odd_later, never_odd_once}
 use Rattle.pot_promises.proofs.OwnGroups.{few_can_be_had, group_within}
 use Rattle.pot_promises.proofs.Running.{all_lead}
 use Rattle.pot_promises.proofs.Walking.{HasRow, IsCut, behind_at, cut_at, row_at}
@@ -90,6 +94,14 @@ module _ (seed : List ℕ) (first last : Contents) (room : Transition RoomState)
       let keeps = stored_keeps seed0 begun0 last0 steps said session0 p i name file of pieces shards stored left first between begins in
       let cut = cut_at ss 1 replied.ones done q one replied.are there in
       (cut, λ rest n rep. still_has first.rack (names_of first) n (cut.index_earlier ++ rest) name (digest_of file) keeps.names rep keeps.has)
+
+  -- of a file that nothing renewed it is never odd
+  never_odd_of : (was : WasStored name file first ss rs q) (read : List (List ℕ)) (wanted got : Digest) (odd : WasOdd read seed first ss replied.ones q j name wanted got)
+      → odd.odd.kept.older ≡ [] → NoTwoAlike (blocks_put seed name file first ss rs q was ++ read) → ⊥
+  never_odd_of (Here p i of pieces shards lt stored) read wanted got odd once alike =
+      never_odd_once seed first last ss rs session p i q j lt name file of pieces shards stored read wanted got odd once alike
+  never_odd_of (Before seed0 begun0 last0 left steps said session0 p i of pieces shards stored between begins) read wanted got odd once alike =
+      never_odd_later seed0 begun0 last0 steps said session0 p i name file of pieces shards stored left between seed first last ss rs begins session q j read wanted got odd once alike
 
   module _ (one : Section) (there : slice_get replied.ones q ≡ Some one) (halves : MovesThenRest one) where
     abbrev w : Section
@@ -149,7 +161,8 @@ module _ (seed : List ℕ) (first last : Contents) (room : Transition RoomState)
         let was_full = row.full in
         (log.0, log.1, omega (arith, bound, long, then, was_full))
 
-    says : (r : Reply) → IsAnswered first.rack ss rs q j (commands.Fetch name) r → IsFetchReply s job name r w → SaysOf seed first last room missing ss replied.ones q j name file w r
+    says : (r : Reply) → IsAnswered first.rack ss rs q j (commands.Fetch name) r → IsFetchReply s job name r w
+        → SaysOf seed first last room missing ss replied.ones q j name file (blocks_put seed name file first ss rs q was) w r
     says (replies.File given bytes) answered row = λ alike. same_text file bytes alike (row.1.digest ∙ digest_found row.1.kept row.1.found)
     says (replies.Absent given) answered row = not_absent row.1.index
     says (replies.Lost given piece fragment have need) answered row =
@@ -165,7 +178,8 @@ module _ (seed : List ℕ) (first last : Contents) (room : Transition RoomState)
               (found_fits seed first last room missing story fits leaves done later follows job name lost.kept one halves kept.0 lost.found) (λ p h. (p, h, refl));
         }
     says (replies.Odd given wanted got) answered row =
-        (row.1.wanted_is ∙ digest_found row.1.kept row.1.found, odd_reads seed first last ss rs session q j name given wanted got answered)
+        let read = odd_reads seed first last ss rs session q j name given wanted got answered in
+        (row.1.wanted_is ∙ digest_found row.1.kept row.1.found, (read.0, read.1, never_odd_of was read.0 wanted got read.1))
     says (replies.Fault group column) answered row = λ told read log at is_log.
         faults_are_counted seed first last room missing story fits told leaves ss rs done later follows replied q j (commands.Fetch name) group column answered read log at is_log
     says (replies.LogFull group) answered row = full group row

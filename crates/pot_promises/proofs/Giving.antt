@@ -142,17 +142,27 @@ published_names : (rack : Rack) (n : Names) → AreNames rack n → AreNames rac
 unfolding IsDistinct
 published_names rack n a = record { ascends = a.ascends; fits = a.fits; free = λ k d lt. absurd (omega arith); once = tt }
 
+-- those of the image that a session left
+pub left_names : (rack : Rack) (n : Names) (v : Contents) → AreNames rack n → v.rack ≡ rack → v.records ≡ n.published → AreNames v.rack (names_of v)
+left_names rack n v a same is =
+    subst (λ (r : Rack). AreNames r (names_of v)) (sym same) (subst (λ rs. AreNames rack (names_read rs)) (sym is) (published_names rack n a))
+
+-- and those of the image with which the next one begins
+pub begins_names : (left first : Contents) → Begins left first → AreNames left.rack (names_of left) → AreNames first.rack (names_of first)
+begins_names left first begins names =
+    subst (λ (r : Rack). AreNames r (names_of first)) (sym begins.rack) (subst (λ rs. AreNames left.rack (names_read rs)) (sym begins.records) names)
+
 -- the image that a session left keeps what its log led to
 left_keeps : (rack : Rack) (n : Names) (v : Contents) (name : List ℕ) (d : Digest) → AreNames rack n → Has n name d → v.rack ≡ rack → v.records ≡ n.published → Keeps v name d
 left_keeps rack n v name d a has same is = record {
-  names = subst (λ (r : Rack). AreNames r (names_of v)) (sym same) (subst (λ rs. AreNames rack (names_read rs)) (sym is) (published_names rack n a));
+  names = left_names rack n v a same is;
   has = subst (λ rs. Has (names_read rs) name d) (sym is) (record { its = has.its; there = has.there; named = has.named; digest = has.digest });
 }
 
 -- and so does the image with which the next one begins
 begins_keeps : (left first : Contents) (name : List ℕ) (d : Digest) → Begins left first → Keeps left name d → Keeps first name d
 begins_keeps left first name d begins keeps = record {
-  names = subst (λ (r : Rack). AreNames r (names_of first)) (sym begins.rack) (subst (λ rs. AreNames left.rack (names_read rs)) (sym begins.records) keeps.names);
+  names = begins_names left first begins keeps.names;
   has = subst (λ rs. Has (names_read rs) name d) (sym begins.records) keeps.has;
 }
 
@@ -162,8 +172,8 @@ later_keeps from left name d keeps (Begun {left = before} sofar begins) = begins
 later_keeps from left name d keeps (More {left = before} {first} sofar begins leaves) =
     let there = begins_keeps before first name d begins (later_keeps from before name d keeps sofar) in
     left_keeps first.rack leaves.records.ended left name d
-    (replay_keeps first.rack (names_of first) leaves.records.ended leaves.story there.names leaves.records.replays)
-    (still_has first.rack (names_of first) leaves.records.ended leaves.story name d there.names leaves.records.replays there.has)
+    (replay_keeps first.rack (names_of first) leaves.records.ended leaves.story.index_added there.names leaves.records.replays)
+    (still_has first.rack (names_of first) leaves.records.ended leaves.story.index_added name d there.names leaves.records.replays there.has)
     leaves.rack leaves.records.is
 
 -- so a file that was stored is kept by the image with which a later session begins

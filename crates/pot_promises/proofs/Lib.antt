@@ -8,6 +8,7 @@ pub mod Giving
 pub mod Keeping
 pub mod Losing
 pub mod Odds
+pub mod OddsLater
 pub mod OwnGroups
 pub mod Quiet
 pub mod Replying

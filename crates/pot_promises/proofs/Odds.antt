@@ -11,6 +11,7 @@ use Rattle.std.proofs.lemmas.Option.{same_Some, get_or_from_slice_get, slice_get
 use Rattle.pot_bytes.specs.Rack.{no_place}
 use Rattle.pot_bytes.specs.declared.digest.Digest.{Digest}
 use Rattle.pot_bytes.specs.declared.rack.Place.{Place}
+use Rattle.pot_bytes.specs.declared.rack.Rack.{Rack}
 use Rattle.pot_bytes.proofs.Elements.{at_range, element_at, element_of_map}
 use Rattle.pot_object.specs.Pieces.{pieces_of}
 use Rattle.pot_pads.specs.Pads.{pads_of}
@@ -26,7 +27,7 @@ use Rattle.pot_machine.specs.declared.slot.SlotState.TheVariants.{Live}
 use Rattle.pot_machine.specs.Making.{empty_table}
 use Rattle.pot_machine.specs.Machine.{Replays}
 use Rattle.pot_machine.specs.Slot.{digest_in}
-use Rattle.pot_machine.specs.Table.{count, slot_at}
+use Rattle.pot_machine.specs.Table.{Table, count, slot_at}
 use Rattle.pot_machine.proofs.Filled.{put_digest}
 use Rattle.pot_machine.proofs.Logs.{front_replays}
 use Rattle.pot_shard.specs.FileBlocks.{file_blocks}
@@ -54,6 +55,7 @@ use Rattle.pot_replies.specs.Digests.{NoTwoAlike}
 use Rattle.pot_replies.specs.Fetches.{IsOdd, ReadAt, SeenAs, has_seen}
 use Rattle.pot_replies.specs.Joined.{AreJoined, Read, point_in, points_read, share_in, shares_read}
 use Rattle.pot_replies.specs.Sections.{Section, MovesThenRest, mine, work_of}
+use Rattle.pot_replies.specs.Settings.{Setting}
 use Rattle.pot_replies.specs.Stores.{Placed, Puts, in_group, place_of}
 use Rattle.pot_store.specs.Visits.{Came, Seen, Unknown, block_in, was_seen}
 use Rattle.pot_store.proofs.FitLemmas.{current_fits, fragment_within, point_within}
@@ -68,7 +70,7 @@ use Rattle.pot_promises.proofs.Giving.{first_names, led, transition, names_of, p
 use Rattle.pot_promises.proofs.Keeping.{published_stays}
 use Rattle.pot_promises.proofs.Quiet.{Quiet, quiet_both, quiet_none, steps_quiet}
 use Rattle.pot_promises.proofs.Veils.{IsKept, digest_at, kept_at, place_of_number, store_of}
-use Rattle.pot_promises.proofs.Walking.{IsBehind, behind_at, row_at}
+use Rattle.pot_promises.proofs.Walking.{IsBehind, IsCut, behind_at, row_at}
 
 -- WHAT BLOCKS COME TO
 
@@ -143,6 +145,80 @@ comes_to kept block bytes file random store long joins enough right =
     fetched : IsFetched kept.geometry file random (λ i j. points_read kept.geometry.shards (block i j)) joins.contents (λ i. xor_of (joins.contents i) kept.geometry.fragments)
     fetched = record { joined = joined_at; whole = λ i a. refl }
 
+-- BLOCKS OF A FILE AT THE PLACES OF ITS RECORD
+
+-- The record that a fetch found has places at which blocks of a file were put, and what the fetch
+-- saw there has their digests.
+module _ (rack : Rack) (s : Setting) (w : Section) (job : ℕ) (name file random : List ℕ) (placed : List Placed) (held : List (List ℕ)) (wanted got : Digest)
+    (odd : IsOdd (Some held) s job name wanted got w) (room : FitsRack rack odd.kept) (store : IsStore odd.kept.geometry file random)
+    (long : odd.kept.length ≡ length file) (digest : odd.kept.digest ≡ digest_of file) (places : odd.kept.places ≡ map place_of placed)
+    (digests : map (λ (y : Placed). y.digest) placed ≡ map digest_of (file_blocks odd.kept.geometry file random))
+    (seen_is_put : (b : ℕ) (x : Placed) (d : Digest) → slice_get placed b ≡ Some x → SeenAs (s.first x.group) job (w.before x.group) (w.added x.group) x.stripe x.column d → d ≡ x.digest)
+    (alike : NoTwoAlike (file_blocks odd.kept.geometry file random ++ held)) where
+  abbrev kept : Record
+  kept = odd.kept
+
+  abbrev blocks : List (List ℕ)
+  blocks = file_blocks kept.geometry file random
+
+  abbrev place : ℕ → ℕ → ℕ → Place
+  place a b c = place_at kept.geometry kept.places a b c
+
+  abbrev its_block : ℕ → ℕ → ℕ → List ℕ
+  its_block a b c = shard.block_in kept.geometry file random a b c
+
+  -- a block that was read at a place is that of the file
+  read_is_put : (a b c : ℕ) (block : List ℕ) → a < pieces_of kept.length → b < kept.geometry.fragments → c < kept.geometry.shards
+      → ReadAt (Some held) s job w (place a b c) block → block ≡ its_block a b c
+  read_is_put a b c block la lb lc read =
+      let number : ℕ = position kept.geometry a b c in
+      let within = point_within rack kept room (a * kept.geometry.fragments + b) c (fragment_within rack kept room a b la lb) lc in
+      let there : slice_get kept.places number ≡ Some (place a b c) = slice_get-get_or kept.places number no_place within in
+      let x = element_of_map place_of placed number (place a b c) (ap (λ l. slice_get l number) (sym places) ∙ there) in
+      let its : List ℕ = its_block a b c in
+      let block_there : slice_get blocks number ≡ Some its =
+      place_laws.each kept.geometry file random a b c (subst (λ (n : ℕ). a < pieces_of n) long la) lb lc in
+      let its_digest = digest_at placed blocks number x.0 its digests x.1 block_there in
+      let seen : SeenAs (s.first x.0.group) job (w.before x.0.group) (w.added x.0.group) x.0.stripe x.0.column (digest_of block) =
+      subst (λ (q : Place). SeenAs (s.first q.group) job (w.before q.group) (w.added q.group) q.stripe q.column (digest_of block))
+      (sym x.2) read.1 in
+      alike block its
+      (Contains-append_right blocks held block read.0)
+      (Contains-append_left blocks held its (number, slice_get_within blocks number its block_there, get_or_from_slice_get blocks number its its block_there))
+      (seen_is_put number x.0 (digest_of block) x.1 seen ∙ its_digest)
+
+  abbrev was_seen_at : ℕ → ℕ → ℕ → Bool
+  was_seen_at a b c = has_seen (mine job w).own (place a b c)
+
+  -- a point has a block just where it was seen
+  some_is : (a b c : ℕ) → a < pieces_of kept.length → b < kept.geometry.fragments → c < kept.geometry.shards → is_some (odd.block a b c) ≡ was_seen_at a b c
+  some_is a b c la lb lc = ⊎_elim
+      (λ (yes : was_seen_at a b c ≡ true). (let o = odd.seen a b c la lb lc yes in ap is_some o.1 ∙ sym yes))
+      (λ (no : was_seen_at a b c ≡ false). ap is_some (odd.unseen a b c no) ∙ sym no)
+      (cases_Bool (was_seen_at a b c))
+
+  enough : (a b : ℕ) → a < pieces_of kept.length → b < kept.geometry.fragments → count kept.geometry.shards (λ c. is_some (odd.block a b c)) ≡ kept.geometry.need
+  enough a b la lb =
+      count_same kept.geometry.shards (λ c. is_some (odd.block a b c)) (was_seen_at a b) (λ c lc. some_is a b c la lb lc) ∙ odd.sees a b la lb
+
+  right : (a b c : ℕ) (block : List ℕ) → a < pieces_of kept.length → b < kept.geometry.fragments → c < kept.geometry.shards
+      → odd.block a b c ≡ Some block → block ≡ its_block a b c
+  right a b c block la lb lc at = ⊎_elim
+      (λ (yes : was_seen_at a b c ≡ true).
+      let o = odd.seen a b c la lb lc yes in
+      let it : o.0 ≡ block = same_Some o.0 block (sym o.1 ∙ at) in
+      sym it ∙ read_is_put a b c o.0 la lb lc o.2)
+      (λ (no : was_seen_at a b c ≡ false). absurd (let e = sym at ∙ odd.unseen a b c no in cc e))
+      (cases_Bool (was_seen_at a b c))
+
+  -- so such blocks come to the file
+  pub comes_out : ⊥
+  comes_out =
+      odd.differs
+      (odd.got_is
+      ∙ (ap digest_of (comes_to kept odd.block odd.bytes file random store long odd.joined enough right)
+      ∙ (sym digest ∙ sym odd.wanted_is)))
+
 -- WHAT WAS PUT STANDS IN THE LOG
 
 -- each block of a list of puts has its entry
@@ -170,141 +246,96 @@ parted [] [] (y ∷ m) x s c l = ap (λ t. y ∷ t) (parted [] [] m x s c l)
 parted [] (y ∷ e) m x s c l = ap (λ t. y ∷ t) (parted [] e m x s c l)
 parted (y ∷ b) e m x s c l = ap (λ t. y ∷ t) (parted b e m x s c l)
 
-module _ (seed : List ℕ) (first last : Contents) (ss : List Step) (rs : List Reply) (session : IsSession seed first last ss rs) (p i : ℕ)
-    (name file : List ℕ) (pieces shards : ℕ) (put : IsKept seed first last ss rs session p i name file pieces shards) (two : Section) (halves : MovesThenRest two)
-    (behind : IsBehind put.one two session.done) where
-  abbrev w : Section
-  w = work_of two halves
+-- What a job saw in a section of a session: the table that its log had come to, with all that stood
+-- before the section.
+module _ (seed : List ℕ) (first last : Contents) (ss : List Step) (rs : List Reply) (session : IsSession seed first last ss rs) (two : Section) (halves : MovesThenRest two)
+    (cut : IsCut two session.done) where
+  pub record SawIn (t : Table) (g s c : ℕ) (d : Digest) : Type 0 where
+    pub log : List Entry
+    pub replays : Replays t log (replayed t log)
+    pub live : slot_at (replayed t log) s c ≡ Live d
+    pub before : (e : Entry) → Contains (two.before g) e → Contains log e
 
+  pub saw_in : (job g s c : ℕ) (d : Digest) (t : Table) → slice_get first.tables g ≡ Some t
+      → SeenAs ((setting_of seed first).first g) job ((work_of two halves).before g) ((work_of two halves).added g) s c d → SawIn t g s c d
+  saw_in job g s c d t there (front, back, parts, live) =
+      let leads = session.groups g t there in
+      let same : (setting_of seed first).first g ≡ t = get_or_from_slice_get first.tables g t (empty_table first.rack g) there in
+      let log : List Entry = (two.before g ++ halves.begun g) ++ front in
+      let tail : List Entry = entry.Seen job s c ∷ back in
+      let rest : List Entry = (tail ++ cut.later g) ++ session.later.added g in
+      let whole : session.story.before g ++ session.story.added g ≡ log ++ rest =
+      ap (λ l. session.story.before g ++ l) (session.follows.is_added g
+      ∙ ap (λ l. l ++ session.later.added g) (cut.added g
+      ∙ ap (λ l. cut.earlier g ++ (l ++ cut.later g)) (halves.parts g ∙ ap (λ l. halves.begun g ++ l) parts)))
+      ∙ (parted (session.story.before g) (cut.earlier g) (halves.begun g) front tail (cut.later g) (session.later.added g)
+      ∙ ap (λ l. ((l ++ halves.begun g) ++ front) ++ rest) (ap (λ l. l ++ cut.earlier g) (sym (session.follows.begins g)) ∙ sym (cut.before g))) in
+      record {
+        log = log;
+        replays = front_replays t log rest leads.0 (subst (λ l. Replays t l leads.0) whole leads.1);
+        live = subst (λ f. slot_at (replayed f log) s c ≡ Live d) same live;
+        before = λ e has. Contains-append_left (two.before g ++ halves.begun g) front e (Contains-append_left (two.before g) (halves.begun g) e has);
+      }
+
+module _ (seed : List ℕ) (first last : Contents) (ss : List Step) (rs : List Reply) (session : IsSession seed first last ss rs) (p i : ℕ)
+    (name file : List ℕ) (pieces shards : ℕ) (put : IsKept seed first last ss rs session p i name file pieces shards) where
   -- a block of the store has a place that the rack has
-  in_rack : (b : ℕ) (x : Placed) → slice_get put.its.placed b ≡ Some x → x.group < first.rack.groups
+  in_rack : (b : ℕ) (x : Placed) → slice_get put.its.placed b ≡ Some x → (x.group < first.rack.groups) × (x.column < first.rack.columns)
   in_rack b x at =
       let split = current_fits first.rack put.its.kept put.fits in
       let some : 0 < first.rack.groups = (let a = split.geometry.groups in let c = split.geometry.limits.need.0 in let d = split.geometry.limits.need.1 in omega (arith, a, c, d)) in
       let place = split.places b (place_of x) (place_of_number put.its.kept.places put.its.placed b x put.its.is_record.places at) in
-      subst (λ (n : ℕ). n < first.rack.groups) (sym place.group) (mod_below _ first.rack.groups some)
+      (subst (λ (n : ℕ). n < first.rack.groups) (sym place.group) (mod_below _ first.rack.groups some), place.column)
 
-  -- its entry stands before the section
-  put_before : (x : Placed) → Contains put.its.placed x → (e : Entry) × IsKeptPut (job_at ss p i) x.stripe x.column x.digest e × Contains (two.before x.group) e
-  put_before x has =
+  -- the table with which its group began, and its column in it
+  pub its_table : (b : ℕ) (x : Placed) → slice_get put.its.placed b ≡ Some x
+      → (t : Table) × (slice_get first.tables x.group ≡ Some t) × FitsTable first.rack t × (x.column < t.data_columns)
+  its_table b x at =
+      let within = in_rack b x at in
+      let t = element_at first.tables x.group (let lt = within.0 in let n = session.fits.tables.count in omega (arith, lt, n)) in
+      let fits = all_at_place (FitsTable first.rack) first.tables x.group t.0 session.fits.tables.fits t.1 in
+      (t.0, t.1, fits, (let lt = within.1 in let same = fits.data_columns in omega (arith, lt, same)))
+
+  -- its entry stands in the section of the store
+  pub put_in : (x : Placed) → Contains put.its.placed x → (e : Entry) × IsKeptPut (job_at ss p i) x.stripe x.column x.digest e × Contains (put.one.added x.group) e
+  put_in x has =
       let j : ℕ = job_at ss p i in
       let g : ℕ = x.group in
       let mine_of : Contains (in_group g put.its.placed) x = (Contains-filter (λ (y : Placed). y.group == g) put.its.placed x).1 (has, eq-eqb g g refl) in
       let it = puts_has j (in_group g put.its.placed) (own j (put.halves.worked g)) x (put.its.puts g) mine_of in
       let worked : Contains (put.halves.worked g) it.0 = ((Contains-filter (is_of j) (put.halves.worked g) it.0).0 it.2).0 in
-      let added : Contains (put.one.added g) it.0 =
-      subst (λ l. Contains l it.0) (sym (put.halves.parts g)) (Contains-append_right (put.halves.begun g) (put.halves.worked g) it.0 worked) in
-      (it.0, it.1, subst (λ l. Contains l it.0) (sym (behind.cut.before g)) (Contains-append_right (session.done.before g) (behind.cut.earlier g) it.0 (behind.has g it.0 added)))
+      (it.0, it.1, subst (λ l. Contains l it.0) (sym (put.halves.parts g)) (Contains-append_right (put.halves.begun g) (put.halves.worked g) it.0 worked))
 
-  -- what a job saw there has the digest of the block that was put
-  seen_is_put : (job b : ℕ) (x : Placed) (d : Digest) → slice_get put.its.placed b ≡ Some x
-      → SeenAs ((setting_of seed first).first x.group) job (w.before x.group) (w.added x.group) x.stripe x.column d → d ≡ x.digest
-  seen_is_put job b x d at (front, back, parts, live) =
+  -- what a job of a later section of the session saw there has the digest of the block that was put
+  pub seen_is_put : (two : Section) (halves : MovesThenRest two) (behind : IsBehind put.one two session.done) (job b : ℕ) (x : Placed) (d : Digest) → slice_get put.its.placed b ≡ Some x
+      → SeenAs ((setting_of seed first).first x.group) job ((work_of two halves).before x.group) ((work_of two halves).added x.group) x.stripe x.column d → d ≡ x.digest
+  seen_is_put two halves behind job b x d at seen =
       let g : ℕ = x.group in
-      let t = element_at first.tables g (let lt = in_rack b x at in let n = session.fits.tables.count in omega (arith, lt, n)) in
-      let leads = session.groups g t.0 t.1 in
-      let rules = all_at_place (FitsTable first.rack) first.tables g t.0 session.fits.tables.fits t.1 in
-      let same : (setting_of seed first).first g ≡ t.0 = get_or_from_slice_get first.tables g t.0 (empty_table first.rack g) t.1 in
-      let log : List Entry = (two.before g ++ halves.begun g) ++ front in
-      let tail : List Entry = entry.Seen job x.stripe x.column ∷ back in
-      let rest : List Entry = (tail ++ behind.cut.later g) ++ session.later.added g in
-      let whole : session.story.before g ++ session.story.added g ≡ log ++ rest =
-      ap (λ l. session.story.before g ++ l) (session.follows.is_added g
-      ∙ ap (λ l. l ++ session.later.added g) (behind.cut.added g
-      ∙ ap (λ l. behind.cut.earlier g ++ (l ++ behind.cut.later g)) (halves.parts g ∙ ap (λ l. halves.begun g ++ l) parts)))
-      ∙ (parted (session.story.before g) (behind.cut.earlier g) (halves.begun g) front tail (behind.cut.later g) (session.later.added g)
-      ∙ ap (λ l. ((l ++ halves.begun g) ++ front) ++ rest) (ap (λ l. l ++ behind.cut.earlier g) (sym (session.follows.begins g)) ∙ sym (behind.cut.before g))) in
-      let replays = front_replays t.0 log rest leads.0 (subst (λ l. Replays t.0 l leads.0) whole leads.1) in
-      let it = put_before x (b, slice_get_within put.its.placed b x at, get_or_from_slice_get put.its.placed b x x at) in
-      let has : Contains log it.0 = Contains-append_left (two.before g ++ halves.begun g) front it.0 (Contains-append_left (two.before g) (halves.begun g) it.0 it.2) in
-      let filled = put_digest t.0 log (replayed t.0 log) x.stripe x.column x.digest it.0 rules.rules replays has (kept_fills (job_at ss p i) x.stripe x.column x.digest it.0 it.1) in
-      same_Some d x.digest (sym (ap digest_in (subst (λ f. slot_at (replayed f log) x.stripe x.column ≡ Live d) same live)) ∙ filled)
+      let t = its_table b x at in
+      let saw = saw_in seed first last ss rs session two halves behind.cut job g x.stripe x.column d t.0 t.1 seen in
+      let it = put_in x (b, slice_get_within put.its.placed b x at, get_or_from_slice_get put.its.placed b x x at) in
+      let before : Contains (two.before g) it.0 =
+      subst (λ l. Contains l it.0) (sym (behind.cut.before g)) (Contains-append_right (session.done.before g) (behind.cut.earlier g) it.0 (behind.has g it.0 it.2)) in
+      let filled = put_digest t.0 saw.log (replayed t.0 saw.log) x.stripe x.column x.digest it.0 t.2.rules saw.replays (saw.before it.0 before)
+      (kept_fills (job_at ss p i) x.stripe x.column x.digest it.0 it.1) in
+      same_Some d x.digest (sym (ap digest_in saw.live) ∙ filled)
 
-  module _ (held : List (List ℕ)) (job : ℕ) (wanted got : Digest) (odd : IsOdd (Some held) (setting_of seed first) job name wanted got w)
-      (same : odd.kept ≡ put.its.kept)
-      (alike : NoTwoAlike (file_blocks first.rack.geometry file (random_of seed first (job_at ss p i) file) ++ held)) where
-    abbrev kept : Record
-    kept = odd.kept
-
-    abbrev random : List ℕ
-    random = random_of seed first (job_at ss p i) file
-
-    abbrev blocks : List (List ℕ)
-    blocks = file_blocks kept.geometry file random
-
-    abbrev place : ℕ → ℕ → ℕ → Place
-    place a b c = place_at kept.geometry kept.places a b c
-
-    abbrev its_block : ℕ → ℕ → ℕ → List ℕ
-    its_block a b c = shard.block_in kept.geometry file random a b c
-
-    geometry : first.rack.geometry ≡ kept.geometry
-    geometry = sym put.its.is_record.geometry ∙ ap (λ (r : Record). r.geometry) (sym same)
-
-    long : kept.length ≡ length file
-    long = ap (λ (r : Record). r.length) same ∙ put.its.is_record.long
-
-    room : FitsRack first.rack kept
-    room = subst (FitsRack first.rack) (sym same) put.fits
-
-    places : kept.places ≡ map place_of put.its.placed
-    places = ap (λ (r : Record). r.places) same ∙ put.its.is_record.places
-
-    store : IsStore kept.geometry file random
-    store = subst (λ g. IsStore g file random) geometry (store_of first session.fits (pads_of seed first.session (job_at ss p i)) file put.its.short put.its.bytes)
-
-    -- a block that was read at a place is that of the file
-    read_is_put : (a b c : ℕ) (block : List ℕ) → a < pieces_of kept.length → b < kept.geometry.fragments → c < kept.geometry.shards
-        → ReadAt (Some held) (setting_of seed first) job w (place a b c) block → block ≡ its_block a b c
-    read_is_put a b c block la lb lc read =
-        let number : ℕ = position kept.geometry a b c in
-        let within = point_within first.rack kept room (a * kept.geometry.fragments + b) c (fragment_within first.rack kept room a b la lb) lc in
-        let there : slice_get kept.places number ≡ Some (place a b c) = slice_get-get_or kept.places number no_place within in
-        let x = element_of_map place_of put.its.placed number (place a b c) (ap (λ l. slice_get l number) (sym places) ∙ there) in
-        let its : List ℕ = its_block a b c in
-        let block_there : slice_get blocks number ≡ Some its =
-        place_laws.each kept.geometry file random a b c (subst (λ (n : ℕ). a < pieces_of n) long la) lb lc in
-        let digest = digest_at put.its.placed blocks number x.0 its
-        (subst (λ g. map (λ (y : Placed). y.digest) put.its.placed ≡ map digest_of (file_blocks g file random)) geometry put.its.of_digests) x.1 block_there in
-        let seen : SeenAs ((setting_of seed first).first x.0.group) job (w.before x.0.group) (w.added x.0.group) x.0.stripe x.0.column (digest_of block) =
-        subst (λ (q : Place). SeenAs ((setting_of seed first).first q.group) job (w.before q.group) (w.added q.group) q.stripe q.column (digest_of block))
-        (sym x.2) read.1 in
-        subst (λ g. NoTwoAlike (file_blocks g file random ++ held)) geometry alike block its
-        (Contains-append_right blocks held block read.0)
-        (Contains-append_left blocks held its (number, slice_get_within blocks number its block_there, get_or_from_slice_get blocks number its its block_there))
-        (seen_is_put job number x.0 (digest_of block) x.1 seen ∙ digest)
-
-    abbrev was_seen_at : ℕ → ℕ → ℕ → Bool
-    was_seen_at a b c = has_seen (mine job w).own (place a b c)
-
-    -- a point has a block just where it was seen
-    some_is : (a b c : ℕ) → a < pieces_of kept.length → b < kept.geometry.fragments → c < kept.geometry.shards → is_some (odd.block a b c) ≡ was_seen_at a b c
-    some_is a b c la lb lc = ⊎_elim
-        (λ (yes : was_seen_at a b c ≡ true). (let o = odd.seen a b c la lb lc yes in ap is_some o.1 ∙ sym yes))
-        (λ (no : was_seen_at a b c ≡ false). ap is_some (odd.unseen a b c no) ∙ sym no)
-        (cases_Bool (was_seen_at a b c))
-
-    enough : (a b : ℕ) → a < pieces_of kept.length → b < kept.geometry.fragments → count kept.geometry.shards (λ c. is_some (odd.block a b c)) ≡ kept.geometry.need
-    enough a b la lb =
-        count_same kept.geometry.shards (λ c. is_some (odd.block a b c)) (was_seen_at a b) (λ c lc. some_is a b c la lb lc) ∙ odd.sees a b la lb
-
-    right : (a b c : ℕ) (block : List ℕ) → a < pieces_of kept.length → b < kept.geometry.fragments → c < kept.geometry.shards
-        → odd.block a b c ≡ Some block → block ≡ its_block a b c
-    right a b c block la lb lc at = ⊎_elim
-        (λ (yes : was_seen_at a b c ≡ true).
-        let o = odd.seen a b c la lb lc yes in
-        let it : o.0 ≡ block = same_Some o.0 block (sym o.1 ∙ at) in
-        sym it ∙ read_is_put a b c o.0 la lb lc o.2)
-        (λ (no : was_seen_at a b c ≡ false). absurd (let e = sym at ∙ odd.unseen a b c no in cc e))
-        (cases_Bool (was_seen_at a b c))
-
-    -- so such blocks come to the file
-    not_odd : ⊥
-    not_odd =
-        odd.differs
-        (odd.got_is
-        ∙ (ap digest_of (comes_to kept odd.block odd.bytes file random store long odd.joined enough right)
-        ∙ (sym put.its.is_record.digest ∙ (ap (λ (r : Record). r.digest) (sym same) ∙ sym odd.wanted_is))))
+  -- a fetch that found its record, and saw blocks of those digests, is not odd
+  pub not_odd : (s : Setting) (w : Section) (job : ℕ) (held : List (List ℕ)) (wanted got : Digest) (odd : IsOdd (Some held) s job name wanted got w) → odd.kept ≡ put.its.kept
+      → ((b : ℕ) (x : Placed) (d : Digest) → slice_get put.its.placed b ≡ Some x → SeenAs (s.first x.group) job (w.before x.group) (w.added x.group) x.stripe x.column d → d ≡ x.digest)
+      → NoTwoAlike (file_blocks first.rack.geometry file (random_of seed first (job_at ss p i) file) ++ held) → ⊥
+  not_odd s w job held wanted got odd same seen alike =
+      let random = random_of seed first (job_at ss p i) file in
+      let geometry : first.rack.geometry ≡ odd.kept.geometry = sym put.its.is_record.geometry ∙ ap (λ (r : Record). r.geometry) (sym same) in
+      comes_out first.rack s w job name file random put.its.placed held wanted got odd
+      (subst (FitsRack first.rack) (sym same) put.fits)
+      (subst (λ g. IsStore g file random) geometry (store_of first session.fits (pads_of seed first.session (job_at ss p i)) file put.its.short put.its.bytes))
+      (ap (λ (r : Record). r.length) same ∙ put.its.is_record.long)
+      (ap (λ (r : Record). r.digest) same ∙ put.its.is_record.digest)
+      (ap (λ (r : Record). r.places) same ∙ put.its.is_record.places)
+      (subst (λ g. map (λ (y : Placed). y.digest) put.its.placed ≡ map digest_of (file_blocks g file random)) geometry put.its.of_digests)
+      seen
+      (subst (λ g. NoTwoAlike (file_blocks g file random ++ held)) geometry alike)
 
 -- BLOCKS THAT WERE READ
 
@@ -388,4 +419,5 @@ never_odd seed first last ss rs session p i q j lt name file of pieces shards an
     let same : was.odd.kept ≡ put.its.kept =
     one_record found.now.published was.odd.kept put.its.kept (replay_keeps first.rack (names_of first) found.now (earlier ++ sofar) names found.to).ascends
     found.is.0 stays (found.is.1 ∙ sym put.its.is_record.named) in
-    not_odd seed first last ss rs session p i name file pieces shards put was.one was.halves behind read (job_at ss q j) wanted got was.odd same alike
+    not_odd seed first last ss rs session p i name file pieces shards put s (work_of was.one was.halves) (job_at ss q j) read wanted got was.odd same
+    (seen_is_put seed first last ss rs session p i name file pieces shards put was.one was.halves behind (job_at ss q j)) alike

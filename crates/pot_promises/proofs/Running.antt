@@ -1,5 +1,5 @@
 -- A run is a session, as far as its steps came, and leaves a later image.
-use Rattle.std.proofs.Common.{◌≡◌, ◌⊎◌, inl, inr, ℕ, List, [], ◌∷◌, ◌++◌, Option, Some, Result, Ok, Err, refl, ap, sym, ◌∙◌, subst, append-nil, append_assoc, arith, take, drop}
+use Rattle.std.proofs.Common.{◌≡◌, ◌⊎◌, inl, inr, ℕ, Bool, true, false, List, [], ◌∷◌, ◌++◌, Option, Some, Result, Ok, Err, refl, ap, sym, ◌∙◌, subst, append-nil, append_assoc, arith, take, drop}
 use Rattle.std.specs.Prelude.{IfErr, IsTrue, None}
 use Rattle.std.proofs.lemmas.Grind.{flat_map-append}
 use Rattle.std.proofs.lemmas.List.{take-append-drop}
@@ -26,6 +26,7 @@ use Rattle.pot_commands.specs.Steps.{IsStepHalted, IsStepLeft, steps_of}
 use Rattle.pot_commands.specs.Streams.{Wrote}
 use Rattle.pot_session.specs.declared.ending.status.Status.{Status}
 use Rattle.pot_session.specs.declared.ending.stop.Stop.{Stop}
+use Rattle.pot_session.specs.declared.ending.status.Status.TheVariants as status
 use Rattle.pot_session.specs.declared.ending.stop.Stop.TheVariants as stop
 use Rattle.pot_bytes.specs.declared.rack.Rack.{Rack}
 use Rattle.pot_options.specs.Options.{Text}
@@ -34,15 +35,15 @@ use Rattle.pot_session.specs.Calls as calls
 use Rattle.pot_session.specs.Desks.{HoldsImage, IfWritten, IsKeepStop, Keeps, begun}
 use Rattle.pot_session.specs.Making.{Makes, empty_contents}
 use Rattle.pot_session.specs.Tasks.{seed_of}
-use Rattle.pot_session.specs.Runs.{Holds, Stopped, Served, AtDesk, AtScript, AtOpening, IsOf, Seen}
-use Rattle.pot_session.specs.Serving.{Serves, Unlent, Unopened, Closed, IsClosed, Leaves, close_answer, setting_of, status_after}
+use Rattle.pot_session.specs.Runs.{Holds, Stopped, Served, AtDesk, AtScript, AtOpening, IsOf, Seen, Stops}
+use Rattle.pot_session.specs.Serving.{Serves, Unlent, Unopened, Closed, IsClosed, Leaves, close_answer, setting_of, status_by}
 use Rattle.pot_session.specs.Stops.{Refuses, status_of}
 use Rattle.std.proofs.lemmas.Option.{same_Some, slice_get_within}
 use Rattle.pot_bytes.proofs.Elements.{element_at}
 use Rattle.pot_machine.specs.Machine.{Replays}
 use Rattle.pot_promises.specs.Chains.{AllLead, Begins, Begun, IsSession, Later, More, Same}
 use Rattle.pot_image.specs.Spelling.{image_bytes}
-use Rattle.pot_promises.specs.Runs.{Bare, Came, ClosedAs, DesksStayGood, HasImage, HasLater, IsDone, Next, NoneClosed, RanAs, RunsAreSessions, RunsGoLater, RunsGoOn, RunsMayClose}
+use Rattle.pot_promises.specs.Runs.{Bare, Came, CarefulKeeps, ClosedAs, DesksStayGood, HasImage, HasLater, IsDone, IsKeptAs, Next, NoneClosed, RanAs, RunsAreSessions, RunsGoLater, RunsGoOn, RunsMayClose}
 
 -- no stop gives such a status
 not_done : (s : Stop) → IsDone (status_of s) → ⊥
@@ -86,15 +87,18 @@ whole_follows w = record {
 }
 
 -- the log of each group of a session that closed leads from its first table
-pub all_lead : (room : Transition RoomState) (missing : List ℕ) (first last : Contents) (w : Section) → Leaves room missing first last w → AllLead first.tables w
+pub all_lead : (room : Transition RoomState) (missing : List ℕ) (first last : Contents) (w : Section) → Leaves room missing first last w → AllLead first.tables w last.tables
 all_lead room missing first last w leaves g t at =
     let lt = slice_get_within first.tables g t at in
     let many = leaves.groups.count in
     let logs = leaves.groups.count_logs in
     let u = element_at last.tables g (omega (arith, lt, many)) in
     let log = element_at last.group_logs g (omega (arith, lt, logs)) in
-    let left = leaves.groups.each g t u.0 log.0 at u.1 log.1 in
-    (left.view.table, subst (λ l. Replays t l left.view.table) (left.is_log ∙ leaves.logs g log.0 log.1) (subst (λ f. Replays f left.view.log left.view.table) left.first left.settled.replay))
+    let left = leaves.groups.each g t u.0 log.0 at u.1 log.1 in (
+      left.view.table,
+      subst (λ l. Replays t l left.view.table) (left.is_log ∙ leaves.logs g log.0 log.1) (subst (λ f. Replays f left.view.log left.view.table) left.first left.settled.replay),
+      u.1 ∙ ap Some left.is,
+    )
 
 -- A SESSION THAT CLOSED
 
@@ -191,7 +195,7 @@ runs_go_on last held read (has, is_image) (bytes, is, answers) =
 
 -- A RUN
 
-module _ (seed : List ℕ) (seen : Seen) (answer : Status) (told : IsTrue seen.desk.tells) where
+module _ (seed : List ℕ) (careful : Bool) (seen : Seen) (answer : Status) (told : IsTrue seen.desk.tells) where
   abbrev Ended : Type 0
   Ended = ClosedAs seed seen ⊎ NoneClosed (held_in seen.desk)
 
@@ -201,23 +205,21 @@ module _ (seed : List ℕ) (seen : Seen) (answer : Status) (told : IsTrue seen.d
     first = begun (contents i)
 
     abbrev Shut : Type 0
-    Shut = IsClosed seed first steps seen.room seen.sink seen.desk answer
+    Shut = IsClosed seed careful first steps seen.room seen.sink seen.desk answer
 
     abbrev Ends : Type 0
-    Ends = Serves seed first steps seen.room seen.sink seen.desk answer
+    Ends = Serves seed careful first steps seen.room seen.sink seen.desk answer
 
     -- WELL
 
     module _ (done : IsDone answer) where
       -- a session that closed, by how its steps and its close ended
       well : Shut → RanAs seed seen
-      well c = by c.ending c.ends c.missing c.kept c.leaves c.keeps.holds c.image c.status
+      well c = by careful c.ending c.ends c.missing c.kept c.leaves c.keeps.holds c.image c.status
         where
-          by : (e : Ending) → EndsOver (setting_of seed first) c.story seen.sink steps e → (missing : List ℕ) (r : Result (Unit {0}) Stop)
-              → Leaves seen.room missing first c.last c.story
-              → (IsTrue seen.desk.tells → Keeps (since (held_in seen.desk) (Some (image_bytes first))) (image_bytes c.last) r) → IfWritten r (IsImage c.last)
-              → answer ≡ status_after e (close_answer missing r) → RanAs seed seen
-          by (ending.Done refused) ends [] (Ok u) leaves kept image is = record {
+          done_well : (refused : Bool) → EndsOver (setting_of seed first) c.story seen.sink steps (ending.Done refused) → Leaves seen.room [] first c.last c.story
+              → Keeps (since (held_in seen.desk) (Some (image_bytes first))) (image_bytes c.last) (Ok tt) → IsImage c.last → RanAs seed seen
+          done_well refused ends leaves kept image = record {
             read = i;
             was_held = of.image told;
             steps = steps;
@@ -226,13 +228,25 @@ module _ (seed : List ℕ) (seen : Seen) (answer : Status) (told : IsTrue seen.d
             replies = ends.replies;
             session = whole_session seed seen.room [] first c.last c.story rules.together leaves steps ends.replies ends.replied;
             written = ends.written;
-            left = (kept told, image);
+            left = (kept, image);
           }
-          by (ending.Done refused) ends [] (Err s) leaves kept image is = absurd (not_done s (subst IsDone is done))
-          by (ending.Done refused) ends (n ∷ missing) r leaves kept image is = absurd (subst IsDone is done)
-          by ending.SinkFailed ends missing r leaves kept image is = absurd (subst IsDone is done)
-          by ending.RoomFailed ends missing r leaves kept image is = absurd (subst IsDone is done)
-          by ending.NoMemory ends missing r leaves kept image is = absurd (subst IsDone is done)
+
+          by : (careful : Bool) (e : Ending) → EndsOver (setting_of seed first) c.story seen.sink steps e → (missing : List ℕ) (r : Result (Unit {0}) Stop)
+              → Leaves seen.room missing first c.last c.story
+              → (IsTrue seen.desk.tells → Keeps (since (held_in seen.desk) (Some (image_bytes first))) (image_bytes c.last) r) → IfWritten r (IsImage c.last)
+              → answer ≡ status_by careful e r (close_answer missing r) → RanAs seed seen
+          by true e ends missing (Err s) leaves kept image is = absurd (not_done s (subst IsDone is done))
+          by true (ending.Done refused) ends [] (Ok u) leaves kept image is = done_well refused ends leaves (kept told) image
+          by true (ending.Done refused) ends (n ∷ missing) (Ok u) leaves kept image is = absurd (subst IsDone is done)
+          by true ending.SinkFailed ends missing (Ok u) leaves kept image is = absurd (subst IsDone is done)
+          by true ending.RoomFailed ends missing (Ok u) leaves kept image is = absurd (subst IsDone is done)
+          by true ending.NoMemory ends missing (Ok u) leaves kept image is = absurd (subst IsDone is done)
+          by false (ending.Done refused) ends [] (Ok u) leaves kept image is = done_well refused ends leaves (kept told) image
+          by false (ending.Done refused) ends [] (Err s) leaves kept image is = absurd (not_done s (subst IsDone is done))
+          by false (ending.Done refused) ends (n ∷ missing) r leaves kept image is = absurd (subst IsDone is done)
+          by false ending.SinkFailed ends missing r leaves kept image is = absurd (subst IsDone is done)
+          by false ending.RoomFailed ends missing r leaves kept image is = absurd (subst IsDone is done)
+          by false ending.NoMemory ends missing r leaves kept image is = absurd (subst IsDone is done)
 
       served_well : Ends → RanAs seed seen
       served_well (Unlent is sink kept room others) = absurd (subst IsDone is done)
@@ -241,29 +255,36 @@ module _ (seed : List ℕ) (seen : Seen) (answer : Status) (told : IsTrue seen.d
 
     -- HOWEVER IT ENDED
 
-    shut : Shut → ClosedAs seed seen
-    shut c = by c.ending c.ends
+    -- with the image that it left
+    abbrev At : Shut → Type 0
+    At c = (d : ClosedAs seed seen) × (d.last ≡ c.last)
+
+    shut_at : (c : Shut) → At c
+    shut_at c = by c.ending c.ends
       where
         -- some first steps were answered
-        front : (answered others : List Step) (rs : List Reply) → steps ≡ answered ++ others → IsSession seed first c.last answered rs → WroteFirst seen.sink rs → ClosedAs seed seen
-        front answered others rs parts session written = record {
-          read = i;
-          was_held = of.image told;
-          steps = steps;
-          script = of.script;
-          answered = answered;
-          rest = others;
-          parts = parts;
-          last = c.last;
-          replies = rs;
-          session = session;
-          written = written;
-          left = had_begun (since (held_in seen.desk) (Some (image_bytes first))) first c.last rules refl
-              (left_by (since (held_in seen.desk) (Some (image_bytes first))) c.last c.kept c.keeps.which c.image (c.keeps.holds told));
-        }
+        front : (answered others : List Step) (rs : List Reply) → steps ≡ answered ++ others → IsSession seed first c.last answered rs → WroteFirst seen.sink rs → At c
+        front answered others rs parts session written = (
+          record {
+            read = i;
+            was_held = of.image told;
+            steps = steps;
+            script = of.script;
+            answered = answered;
+            rest = others;
+            parts = parts;
+            last = c.last;
+            replies = rs;
+            session = session;
+            written = written;
+            left = had_begun (since (held_in seen.desk) (Some (image_bytes first))) first c.last rules refl
+                (left_by (since (held_in seen.desk) (Some (image_bytes first))) c.last c.kept c.keeps.which c.image (c.keeps.holds told));
+          },
+          refl,
+        )
 
         short : (Left : Setting → ℕ → Sessions.Step Command → Section → Type 0)
-            → EndsShort (λ ds d rs. StopsAt Left (setting_of seed first) ds d rs c.story) seen.sink steps → ClosedAs seed seen
+            → EndsShort (λ ds d rs. StopsAt Left (setting_of seed first) ds d rs c.story) seen.sink steps → At c
         short Left ends =
             front ends.first (ends.next ∷ ends.rest) ends.replies (ends.parts ∙ append_assoc ends.first (ends.next ∷ []) ends.rest)
             (session_of seed seen.room c.missing first c.last c.story rules.together c.leaves ends.first ends.replies ends.replied.done ends.replied.last ends.replied.follows ends.replied.replied)
@@ -272,7 +293,7 @@ module _ (seed : List ℕ) (seen : Seen) (answer : Status) (told : IsTrue seen.d
         whole : (ss : List Step) (rs : List Reply) → Replied (Row (setting_of seed first)) 1 (steps_of ss) rs c.story → IsSession seed first c.last ss rs
         whole ss rs replied = whole_session seed seen.room c.missing first c.last c.story rules.together c.leaves ss rs replied
 
-        by : (e : Ending) → EndsOver (setting_of seed first) c.story seen.sink steps e → ClosedAs seed seen
+        by : (e : Ending) → EndsOver (setting_of seed first) c.story seen.sink steps e → At c
         by (ending.Done refused) ends = front steps [] ends.replies (sym (append-nil steps)) (whole steps ends.replies ends.replied) (all_written seen.sink ends.replies ends.written)
         by ending.SinkFailed ends =
             front (ends.first ++ ends.next ∷ []) ends.rest (ends.replies ++ ends.its) ends.parts (whole (ends.first ++ ends.next ∷ []) (ends.replies ++ ends.its) ends.replied)
@@ -280,12 +301,26 @@ module _ (seed : List ℕ) (seen : Seen) (answer : Status) (told : IsTrue seen.d
         by ending.RoomFailed ends = short IsStepHalted ends
         by ending.NoMemory ends = short IsStepLeft ends
 
+    shut : Shut → ClosedAs seed seen
+    shut c = (shut_at c).0
+
+    -- a session that kept its image, by what it answered
+    left_kept : (e : Ending) (closed r : Result (Unit {0}) Stop) (last : Contents) → answer ≡ status_by true e r closed → IfErr r IsKeepStop
+        → Keeps (since (held_in seen.desk) (Some (image_bytes first))) (image_bytes last) r → IfWritten r (IsImage last)
+        → (answer ≡ status.SinkFault) ⊎ (answer ≡ status.RoomFault) → HasImage seen.desk.after.held last
+    left_kept e closed (Ok u) last is which kept image why = (kept, image)
+    left_kept e closed (Err stop.DeskFault) last is which kept image (inl sink) = absurd (cc (is, sink))
+    left_kept e closed (Err stop.DeskFault) last is which kept image (inr room) = absurd (cc (is, room))
+    left_kept e closed (Err stop.NoMemory) last is which kept image (inl sink) = absurd (cc (is, sink))
+    left_kept e closed (Err stop.NoMemory) last is which kept image (inr room) = absurd (cc (is, room))
+    left_kept e closed (Err _) last is which kept image why = absurd which
+
     served : Ends → Ended
     served (Unlent is sink kept room others) = inr (inr (inr (i, of.image told, (kept told, rules))))
     served (Unopened is sink kept others) = inr (inr (inr (i, of.image told, (kept told, rules))))
     served (Closed c) = inl (shut c)
 
-  held_well : IsDone answer → Holds seed seen answer → RanAs seed seen
+  held_well : IsDone answer → Holds seed careful seen answer → RanAs seed seen
   held_well done (Stopped s stops refuses same) = absurd (refused_not seen.sink s answer refuses done)
   held_well done (Served i steps of rules whole serves ends untouched) = served_well i steps of rules done serves
 
@@ -295,11 +330,14 @@ module _ (seed : List ℕ) (seen : Seen) (answer : Status) (told : IsTrue seen.d
   unopened i was_held (inr (inl new)) = inr (inr (i, was_held, new))
   unopened i was_held (inr (inr none)) = inr (inl none)
 
-  held_shut : Holds seed seen answer → Ended
-  held_shut (Stopped s (AtDesk d refused same) refuses room) = inr (inl (same told))
-  held_shut (Stopped s (AtScript i goes holds_that refused same) refuses room) = inr (inl (same told))
-  held_shut (Stopped s (AtOpening i steps of which image keeps) refuses room) =
-      inr (unopened i (of.image told) (refused_by (held_in seen.desk) (begun (contents i)) s which image (keeps told)))
+  -- no session began
+  stopped : (s : Stop) → Stops seen.source (held_in seen.desk) s → NoneClosed (held_in seen.desk)
+  stopped s (AtDesk d refused same) = inl (same told)
+  stopped s (AtScript i goes holds_that refused same) = inl (same told)
+  stopped s (AtOpening i steps of which image keeps) = unopened i (of.image told) (refused_by (held_in seen.desk) (begun (contents i)) s which image (keeps told))
+
+  held_shut : Holds seed careful seen answer → Ended
+  held_shut (Stopped s stops refuses room) = inr (stopped s stops)
   held_shut (Served i steps of rules whole serves ends untouched) = served i steps of rules serves
 
 -- LATER
@@ -315,7 +353,7 @@ module _ (seed : List ℕ) (seen : Seen) (from left : Contents) (sofar : Later f
   closed_by : (c : ClosedAs seed seen) → HasImage seen.desk.after.held (begun (contents c.read)) ⊎ (HasImage seen.desk.after.held c.last ⊎ (seen.desk.after.held ≡ None)) → Extends
   closed_by c (inl is) = inl (begun (contents c.read), is, Begun sofar (begins c.read c.was_held))
   closed_by c (inr (inl is)) =
-      inl (c.last, is, More sofar (begins c.read c.was_held) (record { story = c.session.story.index_added; rack = c.session.rack; records = c.session.records }))
+      inl (c.last, is, More sofar (begins c.read c.was_held) (record { fits = c.session.fits; story = c.session.story; rack = c.session.rack; records = c.session.records; groups = c.session.groups }))
   closed_by c (inr (inr none)) = inr none
 
   later_by : ClosedAs seed seen ⊎ NoneClosed (held_in seen.desk) → Extends
@@ -325,14 +363,36 @@ module _ (seed : List ℕ) (seen : Seen) (from left : Contents) (sofar : Later f
   later_by (inr (inr (inr (i, was_held, is)))) = inl (begun (contents i), is, Begun sofar (begins i was_held))
 
 pub runs_are_sessions : RunsAreSessions
-runs_are_sessions seed seen answer it done told = held_well seed seen answer told done it
+runs_are_sessions seed careful seen answer it done told = held_well seed careful seen answer told done it
 
 pub runs_may_close : RunsMayClose
-runs_may_close seed seen answer it told = held_shut seed seen answer told it
+runs_may_close seed careful seen answer it told = held_shut seed careful seen answer told it
+
+-- A CAREFUL RUN
+
+module _ (seed : List ℕ) (seen : Seen) (answer : Status) (why : (answer ≡ status.SinkFault) ⊎ (answer ≡ status.RoomFault)) (told : IsTrue seen.desk.tells) where
+  kept_close : (i : Image) (steps : List Step) (of : IsOf seen.source (held_in seen.desk) i steps) (rules : IsImage (begun (contents i)))
+      → Serves seed true (begun (contents i)) steps seen.room seen.sink seen.desk answer → IsKeptAs seed seen ⊎ NoneClosed (held_in seen.desk)
+  kept_close i steps of rules (Unlent is sink kept room others) = inr (inr (inr (i, of.image told, (kept told, rules))))
+  kept_close i steps of rules (Unopened is sink kept others) = inr (inr (inr (i, of.image told, (kept told, rules))))
+  kept_close i steps of rules (Closed c) =
+      let d = shut_at seed true seen answer told i steps of rules c in
+      inl (
+        d.0,
+        subst (HasImage seen.desk.after.held) (sym d.1)
+            (left_kept seed true seen answer told i steps of rules c.ending (close_answer c.missing c.kept) c.kept c.last c.status c.keeps.which (c.keeps.holds told) c.image why),
+      )
+
+  kept_held : Holds seed true seen answer → IsKeptAs seed seen ⊎ NoneClosed (held_in seen.desk)
+  kept_held (Stopped s stops refuses room) = inr (stopped seed true seen answer told s stops)
+  kept_held (Served i steps of rules whole serves ends untouched) = kept_close i steps of rules serves
+
+pub careful_keeps : CarefulKeeps
+careful_keeps seed seen answer it why told = kept_held seed seen answer why told it
 
 pub runs_go_later : RunsGoLater
-runs_go_later seed seen answer it told from (left, has, sofar) =
-    later_by seed seen from left sofar has (held_shut seed seen answer told it)
+runs_go_later seed careful seen answer it told from (left, has, sofar) =
+    later_by seed seen from left sofar has (held_shut seed careful seen answer told it)
 
 -- RUNS, ONE AFTER THE OTHER
 
@@ -376,9 +436,9 @@ none_held seed seen none (inr (inr (inl gone))) = gone
 none_held seed seen none (inr (inr (inr (i, (bytes, is, answers), left)))) = absurd (cc (none, is))
 
 -- a session
-run_good : (seed : List ℕ) (seen : Seen) (answer : Status) → Holds seed seen answer → IsTrue seen.desk.tells → IsGood seen.desk.before.held → IsGood seen.desk.after.held
-run_good seed seen answer it told (inl none) = inl (none_held seed seen none (held_shut seed seen answer told it))
-run_good seed seen answer it told (inr (rack, later)) = by (runs_go_later seed seen answer it told (empty_contents rack) later)
+run_good : (seed : List ℕ) (careful : Bool) (seen : Seen) (answer : Status) → Holds seed careful seen answer → IsTrue seen.desk.tells → IsGood seen.desk.before.held → IsGood seen.desk.after.held
+run_good seed careful seen answer it told (inl none) = inl (none_held seed seen none (held_shut seed careful seen answer told it))
+run_good seed careful seen answer it told (inr (rack, later)) = by (runs_go_later seed careful seen answer it told (empty_contents rack) later)
   where
     by : HasLater (empty_contents rack) seen.desk.after.held ⊎ (seen.desk.after.held ≡ None) → IsGood seen.desk.after.held
     by (inl more) = inr (rack, more)
@@ -393,7 +453,7 @@ next_good words drawn seen answer (Drilling d spells drills same room) told good
 next_good words drawn seen answer (Recovering r spells unread recovers same) told good = still_good (held_in seen.desk) (same told) good
 next_good words drawn seen answer (Auditing a spells unread audits same room) told good = still_good (held_in seen.desk) (same told) good
 next_good words drawn seen answer (Generating n spells unread generates same room) told good = still_good (held_in seen.desk) (same told) good
-next_good words drawn seen answer (Session that spelled it) told good = run_good (seed_of that drawn) seen answer it told good
+next_good words drawn seen answer (Session that spelled it) told good = run_good (seed_of that drawn) that.careful seen answer it told good
 
 pub desks_stay_good : DesksStayGood
 desks_stay_good held Bare = inl refl

@@ -233,7 +233,7 @@ view_few job g few =
     let c = length-map (kept_log g) (λ l. l.entry) in let d = ap length (entries_kept g) in omega (arith, a, b, c, d, few))
 
 pub blinds_of_run : BlindsOfRun
-blinds_of_run seed first steps room sink desk answer image c job some =
+blinds_of_run seed careful first steps room sink desk answer image c job some =
     let its = c.blinded job some in (
       its.0,
       its.1,

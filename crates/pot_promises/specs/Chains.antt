@@ -2,7 +2,6 @@
 use Rattle.std.specs.Prelude.{◌≡◌, ◌++◌, ℕ, List, [], Some, slice_get}
 use Rattle.pot_machine.specs.Table.{Table}
 use Rattle.pot_machine.specs.Machine.{Replays}
-use Rattle.pot_index.specs.declared.entry.Logged.{Logged}
 use Rattle.pot_script.specs.declared.grouping.Step.{Step}
 use Rattle.pot_script.specs.declared.reply.Reply.{Reply}
 use Rattle.pot_image.specs.Images.{Contents}
@@ -11,21 +10,24 @@ use Rattle.pot_replies.specs.Sections.{Section, Follows}
 use Rattle.pot_replies.specs.Sessions.{Replied}
 use Rattle.pot_commands.specs.Rows.{Row}
 use Rattle.pot_commands.specs.Steps.{steps_of}
-use Rattle.pot_shared.specs.Leaving.{LeavesRecords}
+use Rattle.pot_shared.specs.Leaving.{LeavesRecords, still}
 use Rattle.pot_session.specs.Serving.{setting_of}
 
--- A session over the image with which it began left that image: the log of its index leads from the
--- records of the one to those of the other.
-pub record Leaves (first last : Contents) : Type 0 where
-  pub story : List Logged
-  pub rack : last.rack ≡ first.rack
-  pub records : LeavesRecords first.rack first.records story last.index_log last.records
-
--- the log of each group leads from the table that the group began with, each entry legal in turn
-abbrev pub AllLead : List Table → Section → Type 0
-AllLead tables w =
+-- The log of each group leads from the table that the group began with, each entry legal in turn,
+-- to the one that was left, but for relays that were under way.
+abbrev pub AllLead : List Table → Section → List Table → Type 0
+AllLead tables w left =
     (g : ℕ) (t : Table) → slice_get tables g ≡ Some t
-    → (u : Table) × Replays t (w.before g ++ w.added g) u
+    → (u : Table) × Replays t (w.before g ++ w.added g) u × (slice_get left g ≡ Some (still u))
+
+-- A session over the image with which it began, whose parts fit together, left that image: its logs
+-- lead from the records and the tables of the one to those of the other.
+pub record Leaves (first last : Contents) : Type 0 where
+  pub fits : FitsTogether first
+  pub story : Section
+  pub rack : last.rack ≡ first.rack
+  pub records : LeavesRecords first.rack first.records story.index_added last.index_log last.records
+  pub groups : AllLead first.tables story last.tables
 
 -- A session that began with this image, whose parts fit together, as its logs and its close tell:
 -- these steps, the first of its script, have these replies by what its logs had gained when the
@@ -37,7 +39,7 @@ pub record IsSession (seed : List ℕ) (first last : Contents) (ss : List Step)
   pub opened : story.index_before ≡ []
   pub rack : last.rack ≡ first.rack
   pub records : LeavesRecords first.rack first.records story.index_added last.index_log last.records
-  pub groups : AllLead first.tables story
+  pub groups : AllLead first.tables story last.tables
   pub done : Section
   pub later : Section
   pub follows : Follows done later story

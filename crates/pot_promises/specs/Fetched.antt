@@ -34,6 +34,7 @@ use Rattle.pot_promises.specs.Answers.{IsAnswered, job_at}
 use Rattle.pot_promises.specs.Chains.{IsSession, Begins, Later}
 use Rattle.pot_promises.specs.Faults.{HasFailed}
 use Rattle.pot_promises.specs.Odds.{WasOdd}
+use Rattle.pot_promises.specs.Veils.{stream_blocks}
 
 -- WHAT WAS STORED
 
@@ -50,6 +51,15 @@ pub data WasStored (name file : List ℕ) (first : Contents) (ss : List Step) (r
       → IsAnswered begun.rack steps said p i (commands.Store name file)
       (replies.Stored of pieces shards)
       → Later last left → Begins left first → WasStored name file first ss rs q
+
+-- the blocks that the store put, by the seed of its session and the stream of its job
+abbrev pub blocks_put : (seed name file : List ℕ) (first : Contents) (ss : List Step)
+    (rs : List Reply) (q : ℕ) → WasStored name file first ss rs q → List (List ℕ)
+blocks_put seed name file first ss rs q (Here p i of pieces shards before stored) =
+    stream_blocks seed first (job_at ss p i) file
+blocks_put seed name file first ss rs q
+    (Before its begun last left steps said session p i of pieces shards stored later begins) =
+    stream_blocks its begun (job_at steps p i) file
 
 -- WHAT IS ASKED OF ARCHIVES
 
@@ -87,28 +97,31 @@ IsFull last g =
     (log : List Entry) × (slice_get last.group_logs g ≡ Some log) × (length log ≡ log_bound)
 
 -- What each reply says. Bytes are those of the file, unless the two texts differ and have one
--- digest. `odd` is said of the file's own digest, by blocks that were read. A `fault` has its
--- cause in an archive of that column, and `logfull` in a log that is full. No other reply is given,
--- and so none is `absent`.
+-- digest. `odd` is said of the file's own digest, by blocks that were read; where nothing renewed
+-- the name, two different ones among these and the blocks that were put have one digest. A `fault`
+-- has its cause in an archive of that column, and `logfull` in a log that is full. No other reply
+-- is given, and so none is `absent`.
 abbrev pub SaysOf : List ℕ → Contents → Contents → Transition RoomState → List ℕ → List Step
-    → List Section → (q j : ℕ) → (name file : List ℕ) → Section → Reply → Type 0
-SaysOf seed first last room missing ss ones q j name file w (replies.File given bytes) =
+    → List Section → (q j : ℕ) → (name file : List ℕ) → (put : List (List ℕ)) → Section → Reply
+    → Type 0
+SaysOf seed first last room missing ss ones q j name file put w (replies.File given bytes) =
     NoTwoAlike (file ∷ bytes ∷ []) → bytes ≡ file
-SaysOf seed first last room missing ss ones q j name file w
+SaysOf seed first last room missing ss ones q j name file put w
     (replies.Lost given piece fragment have need) =
     IsLostBy seed first last room missing (job_at ss q j) name piece fragment have need w
-SaysOf seed first last room missing ss ones q j name file w (replies.Odd given wanted got) =
+SaysOf seed first last room missing ss ones q j name file put w (replies.Odd given wanted got) =
     (wanted ≡ digest_of file)
-    × ((read : List (List ℕ)) × WasOdd read seed first ss ones q j name wanted got)
-SaysOf seed first last room missing ss ones q j name file w (replies.Fault group column) =
+    × ((read : List (List ℕ)) × (was : WasOdd read seed first ss ones q j name wanted got)
+    × (was.odd.kept.older ≡ [] → NoTwoAlike (put ++ read) → ⊥))
+SaysOf seed first last room missing ss ones q j name file put w (replies.Fault group column) =
     IsTrue room.tells → (read : Table) (log : List Entry)
     → slice_get first.tables group ≡ Some read → slice_get last.group_logs group ≡ Some log
     → HasFailed room.before.means room.after.means missing (archives_of read log column)
-SaysOf seed first last room missing ss ones q j name file w (replies.LogFull group) =
+SaysOf seed first last room missing ss ones q j name file put w (replies.LogFull group) =
     IsFull last group
-SaysOf seed first last room missing ss ones q j name file w replies.IndexLogFull =
+SaysOf seed first last room missing ss ones q j name file put w replies.IndexLogFull =
     IsIndexFull (setting_of seed first) 1 (job_at ss q j) w
-SaysOf seed first last room missing ss ones q j name file w _ = ⊥
+SaysOf seed first last room missing ss ones q j name file put w _ = ⊥
 
 -- A fetch of a file that was stored, in this session or in an earlier one and renewed or not, is
 -- answered so, by a section of the session's logs.
@@ -120,7 +133,8 @@ FetchAnswers =
     → (ss : List Step) (rs : List Reply) (done later : Section) → Follows done later story
     → (replied : Replied (Row (setting_of seed first)) 1 (steps_of ss) rs done)
     → AllByRecursion (IsWholeStep first.rack) ss
-    → (q j : ℕ) (name file : List ℕ) → WasStored name file first ss rs q
+    → (q j : ℕ) (name file : List ℕ) → (was : WasStored name file first ss rs q)
     → (r : Reply) → IsAnswered first.rack ss rs q j (commands.Fetch name) r
     → (w : Section) × BeginWith w last.group_logs
-    × SaysOf seed first last room missing ss replied.ones q j name file w r
+    × SaysOf seed first last room missing ss replied.ones q j name file
+    (blocks_put seed name file first ss rs q was) w r

@@ -1,5 +1,5 @@
 -- That a fetch of a file which a session stored is not answered `odd`.
-use Rattle.std.specs.Prelude.{◌≡◌, ◌≤◌, ◌<◌, ◌++◌, ℕ, List, Some, slice_get}
+use Rattle.std.specs.Prelude.{◌≡◌, ◌≤◌, ◌<◌, ◌++◌, ℕ, List, [], Some, slice_get}
 use Rattle.pot_bytes.specs.declared.digest.Digest.{Digest}
 use Rattle.pot_bytes.specs.declared.rack.Geometry.{Geometry}
 use Rattle.pot_bytes.specs.declared.rack.Rack.{Rack}
@@ -13,7 +13,7 @@ use Rattle.pot_replies.specs.Fetches.{IsOdd}
 use Rattle.pot_replies.specs.Sections.{Section, MovesThenRest, work_of}
 use Rattle.pot_session.specs.Serving.{setting_of}
 use Rattle.pot_promises.specs.Answers.{IsAnswered, job_at}
-use Rattle.pot_promises.specs.Chains.{IsSession}
+use Rattle.pot_promises.specs.Chains.{Begins, IsSession, Later}
 use Rattle.pot_promises.specs.Veils.{stream_blocks}
 
 -- The fetch of a name at this place was odd: the digest of the bytes was not the wanted one. Each
@@ -55,4 +55,21 @@ NeverOdd =
     → IsAnswered first.rack ss rs p i (commands.Store name file) (replies.Stored of pieces shards)
     → NoneRenewed first.rack ss rs q name → (read : List (List ℕ)) (wanted got : Digest)
     → WasOdd read seed first ss session.replied.ones q j name wanted got
+    → NoTwoAlike (stream_blocks seed first (job_at ss p i) file ++ read) → ⊥
+
+-- The same over sessions: the file was stored in one, whose close the desk has, and its name was
+-- fetched in a later one, whatever other sessions came in between. The record that the fetch found
+-- has one split, so that nothing renewed the name.
+abbrev pub NeverOddLater : Type 0
+NeverOddLater =
+    (seed : List ℕ) (first last : Contents) (ss : List Step) (rs : List Reply)
+    → IsSession seed first last ss rs → (p i : ℕ)
+    → (name file of : List ℕ) (pieces shards : ℕ)
+    → IsAnswered first.rack ss rs p i (commands.Store name file) (replies.Stored of pieces shards)
+    → (left : Contents) → Later last left
+    → (seed2 : List ℕ) (first2 last2 : Contents) (ss2 : List Step) (rs2 : List Reply)
+    → Begins left first2 → (session2 : IsSession seed2 first2 last2 ss2 rs2)
+    → (q j : ℕ) (read : List (List ℕ)) (wanted got : Digest)
+    → (was : WasOdd read seed2 first2 ss2 session2.replied.ones q j name wanted got)
+    → was.odd.kept.older ≡ []
     → NoTwoAlike (stream_blocks seed first (job_at ss p i) file ++ read) → ⊥

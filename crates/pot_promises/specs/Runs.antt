@@ -1,5 +1,5 @@
 -- What a run of the program is, and what it leaves on its desk.
-use Rattle.std.specs.Prelude.{◌≡◌, ◌≢◌, ◌⊎◌, ◌++◌, ℕ, IsTrue, List, Option, Some, None}
+use Rattle.std.specs.Prelude.{◌≡◌, ◌≢◌, ◌⊎◌, ◌++◌, ℕ, Bool, true, IsTrue, List, Option, Some, None}
 use Rattle.pot_bytes.specs.declared.rack.Rack.{Rack}
 use Rattle.pot_options.specs.Options.{Text}
 use Rattle.pot_words.specs.Tasks.{SpellTask}
@@ -51,8 +51,9 @@ pub record RanAs (seed : List ℕ) (seen : Seen) : Type 0 where
 -- status is 0 or 1, it was such a session. So what is promised of sessions is promised of runs.
 abbrev pub RunsAreSessions : Type 0
 RunsAreSessions =
-    (seed : List ℕ) (seen : Seen) (answer : Status) → Holds seed seen answer → IsDone answer
-    → IsTrue seen.desk.tells → RanAs seed seen
+    (seed : List ℕ) (careful : Bool) (seen : Seen) (answer : Status)
+    → Holds seed careful seen answer → IsDone answer → IsTrue seen.desk.tells
+    → RanAs seed seen
 
 -- HOWEVER A RUN ENDS
 
@@ -87,8 +88,20 @@ NoneClosed desk =
 -- Whatever its status, a run over a desk that tells its image was such a session, or none closed.
 abbrev pub RunsMayClose : Type 0
 RunsMayClose =
-    (seed : List ℕ) (seen : Seen) (answer : Status) → Holds seed seen answer
+    (seed : List ℕ) (careful : Bool) (seen : Seen) (answer : Status)
+    → Holds seed careful seen answer
     → IsTrue seen.desk.tells → ClosedAs seed seen ⊎ NoneClosed (held_in seen.desk)
+
+-- A careful run that ended with 5 or 8 kept the image: where its session closed, the desk has the
+-- image that the session left, and so no file is lost of which it was said that it is stored.
+abbrev pub IsKeptAs : (seed : List ℕ) (seen : Seen) → Type 0
+IsKeptAs seed seen = (c : ClosedAs seed seen) × HasImage seen.desk.after.held c.last
+
+abbrev pub CarefulKeeps : Type 0
+CarefulKeeps =
+    (seed : List ℕ) (seen : Seen) (answer : Status) → Holds seed true seen answer
+    → (answer ≡ status.SinkFault) ⊎ (answer ≡ status.RoomFault) → IsTrue seen.desk.tells
+    → IsKeptAs seed seen ⊎ NoneClosed (held_in seen.desk)
 
 -- the desk has an image to which sessions lead from this one
 abbrev pub HasLater : Contents → Option (List ℕ) → Type 0
@@ -97,7 +110,8 @@ HasLater from held = (now : Contents) × HasImage held now × Later from now
 -- Where the desk had such an image, it has one after a run, whatever its status, or none.
 abbrev pub RunsGoLater : Type 0
 RunsGoLater =
-    (seed : List ℕ) (seen : Seen) (answer : Status) → Holds seed seen answer
+    (seed : List ℕ) (careful : Bool) (seen : Seen) (answer : Status)
+    → Holds seed careful seen answer
     → IsTrue seen.desk.tells → (from : Contents) → HasLater from seen.desk.before.held
     → HasLater from seen.desk.after.held ⊎ (seen.desk.after.held ≡ None)
 

@@ -1,5 +1,5 @@
 -- The stretches of a job's key stream that blind its relays.
-use Rattle.std.specs.Prelude.{◌≡◌, ◌<◌, ◌≤◌, ◌+◌, ◌*◌, ◌^◌, ℕ, List, Option, Some, length}
+use Rattle.std.specs.Prelude.{◌≡◌, ◌<◌, ◌≤◌, ◌+◌, ◌*◌, ◌^◌, ℕ, Bool, List, Option, Some, length}
 use Rattle.std.specs.Prelude.{slice_get}
 use Rattle.pot_outside.specs.Accounts.{Content, Transition}
 use Rattle.pot_outside.specs.Rooms.{RoomState}
@@ -27,9 +27,10 @@ pub record HaveStretches (seed : List ℕ) (session job : ℕ) (its : ℕ → Li
 -- relays had in the groups that the session left.
 abbrev pub BlindsOfRun : Type 0
 BlindsOfRun =
-    (seed : List ℕ) (first : Contents) (steps : List Step) (room : Transition RoomState)
-    (sink : Transition (List ℕ)) (desk : Transition (Content (Option (List ℕ)))) (answer : Status)
-    → IsImage first → (c : IsClosed seed first steps room sink desk answer)
+    (seed : List ℕ) (careful : Bool) (first : Contents) (steps : List Step)
+    (room : Transition RoomState) (sink : Transition (List ℕ))
+    (desk : Transition (Content (Option (List ℕ)))) (answer : Status)
+    → IsImage first → (c : IsClosed seed careful first steps room sink desk answer)
     → (job : ℕ) → 0 < job
     → (its : ℕ → List (List ℕ)) × HaveBlinds c.leaves.groups job its
     × HaveStretches seed first.session job its

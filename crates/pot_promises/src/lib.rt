@@ -8,7 +8,7 @@
 //!    a batch too, has its replies, what is written is their texts, and the desk has the image that
 //!    the session left, which keeps the rules of images; the next run begins with it (`run_laws`).
 //!    A run that ends otherwise is such a session too, as far as its steps came, if it closed at
-//!    all (`may_close`). Where words, image and script are in their grammars it ends so, unless an
+//!    all (`may_close`). A careful one that ended with 5 or with 8 kept the image (`careful`). Where words, image and script are in their grammars it ends so, unless an
 //!    object outside failed or memory ran out (`answered`), also over what a run left
 //!    (`next_answered`). From a desk without an image, by any runs one after the other, the desk has
 //!    none or one to which sessions lead from that of a new archive (`stay_good`); and no session
@@ -22,7 +22,7 @@
 //!    session and the job gives of it; and who sees fewer of them than are needed, of some fragment
 //!    of each piece, sees what every other file of that length gives as well (`veil_laws`).
 //! 5. No later fetch of its name is odd by blocks of which, with the file's own, no two different
-//!    ones have one digest (`odd_laws`).
+//!    ones have one digest, in its session or in a later one, until the name is renewed (`odd_laws`).
 //! 6. A reply `fault` of a column comes only where an archive of that column counted a fault in the
 //!    session (`fault_laws`).
 //! 7. Where no archive lost a block in the session, a fetch or a renewal is answered `lost` only
@@ -54,11 +54,11 @@ ghost use Rattle.pot_promises.specs.Faults.{FaultsAreCounted};
 ghost use Rattle.pot_promises.specs.Fetched.{FetchAnswers};
 ghost use Rattle.pot_promises.specs.Frames.{FrameOfRun};
 ghost use Rattle.pot_promises.specs.Lost.{LostIsFew};
-ghost use Rattle.pot_promises.specs.Odds.{NeverOdd, OddReads};
+ghost use Rattle.pot_promises.specs.Odds.{NeverOdd, NeverOddLater, OddReads};
 ghost use Rattle.pot_promises.specs.Openings.{OpeningsAreTrue};
 ghost use Rattle.pot_promises.specs.Promises.{GivesBack, GivesBackLater};
 ghost use Rattle.pot_promises.specs.Remaining.{BlocksRemain, OlderDeskFinds, ServedRemain};
-ghost use Rattle.pot_promises.specs.Runs.{DesksStayGood, NeverRefused, RunsAreSessions};
+ghost use Rattle.pot_promises.specs.Runs.{CarefulKeeps, DesksStayGood, NeverRefused, RunsAreSessions};
 ghost use Rattle.pot_promises.specs.Runs.{RunsGoLater, RunsGoOn, RunsMayClose};
 ghost use Rattle.pot_promises.specs.Stretches.{BlindsOfRun, StreamsApart};
 ghost use Rattle.pot_promises.specs.Veils.{StaysVeiled};
@@ -68,6 +68,7 @@ ghost use Rattle.pot_promises.specs.Words.{WordsAreAnswered};
 pub fn run_laws()
     ensures sessions { RunsAreSessions }
     ensures may_close { RunsMayClose }
+    ensures careful { CarefulKeeps }
     ensures go_on { RunsGoOn }
     ensures go_later { RunsGoLater }
     ensures stay_good { DesksStayGood }
@@ -120,6 +121,7 @@ pub fn veil_laws()
 pub fn odd_laws()
     ensures odd_reads { OddReads }
     ensures never_odd { NeverOdd }
+    ensures never_odd_later { NeverOddLater }
 {}
 
 /// What the words that hold no session answer, each by its cause. It does nothing.

@@ -222,7 +222,7 @@ pub closes : {A : Type 0} (archives : Account A Meaning) (hand : List (Shelf A))
     → (left : LeaveGroups (IsTrue archives.tells) meant.means (IsInHand archives.meaning hand) read last.group_logs (map still last.tables)) × ((job : ℕ) → 0 < job → HaveBlinds left job (blinds_by job old.groups new.groups))
     → LeavesLogs old new rack last.group_logs last.index_log last.records
     → (IsTrue archives.tells → AreOpened meant.means (RoseInHand archives.meaning hand meant.means) (RoseOftenInHand archives.meaning hand meant.means) first.tables (section_of old new))
-    → closed ≡ first_failure given kept → IfWritten kept (IsWhole last) → Closes old new (transition_by archives.tells meant means) worked.failures desk first closed
+    → closed ≡ first_failure given kept → IfWritten kept (IsWhole last) → Closes old new (transition_by archives.tells meant means) worked.failures desk first kept closed
 unfolding leaves_of
 closes archives hand meant worked means read old new rack desk first last given kept closed k which cause back opened b same groups left found is whole =
     let moved : Left archives meant means old new last back.missing first.tables = subst (Left archives meant means old new last back.missing) (sym b.are_tables) (
@@ -241,7 +241,6 @@ closes archives hand meant worked means read old new rack desk first last given 
           (RoseOftenInHand archives.meaning hand meant.means) (RoseOftenInRoom meant.means means.means back.missing) u ((section_of old new).before g)
           (rose_in_room archives hand meant.means worked means given back t) (often_in_room archives hand meant.means worked means given back t) (found t g u q));
       blinds = moved.1;
-      kept = kept;
       whole = if_written kept (still_whole last) whole;
       keeps = λ held. record {
         holds = λ t. subst (λ b. Keeps (since (held_in desk) (Some (image_bytes first))) b kept) (sym (same_image last)) (subst (λ h. Keeps (since (held_in desk) h) (image_bytes last) kept) (held t) (k t));

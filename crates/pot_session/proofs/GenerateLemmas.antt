@@ -1,6 +1,6 @@
 -- The session of a generated script.
 use Rattle.std.proofs.lemmas.Bool.{cases_lt}
-use Rattle.std.proofs.Common.{◌≡◌, ◌<◌, ◌+◌, ℕ, inl, inr, arith, true, List, [], Option, Some, None, ap, sym, subst, ◌∙◌}
+use Rattle.std.proofs.Common.{◌≡◌, ◌<◌, ◌+◌, ℕ, inl, inr, arith, true, false, List, [], Option, Some, None, ap, sym, subst, ◌∙◌}
 use Rattle.std.specs.Prelude.{Result, Ok, Err}
 use Rattle.std.specs.Result.{is_ok}
 use Rattle.pot_bytes.specs.declared.rack.Rack.{Rack}
@@ -26,7 +26,7 @@ use Rattle.pot_session.specs.Runs.{Holds, seen_by}
 pub is_generated : (number : ℕ) (rack : Rack) (seed input rest before bytes : List ℕ) (desk leaves : Content (Option (List ℕ))) (room lends : RoomState) (ended : Status)
     → rack ≡ rack_of_runs → seed ≡ seed_of number → input ≡ script_text (generated number) → before ≡ [] → desk.held ≡ Some (image_bytes (empty_contents rack))
     → ((n : ℕ) → room.means n ≡ meaning_of None) → AreSound lends.means → room.failures ≡ 0
-    → Holds seed (seen_by (transition_by true input rest) (transition_by true before bytes) (transition_by true desk leaves) (transition_by true room lends)) ended → IsGenerated number bytes ended
+    → Holds seed false (seen_by (transition_by true input rest) (transition_by true before bytes) (transition_by true desk leaves) (transition_by true room lends)) ended → IsGenerated number bytes ended
 is_generated number rack seed input rest before bytes desk leaves room lends ended same_rack same_seed same_input none is_held empty are_sound none_failed session = record {
   rest = rest;
   desk = desk;
@@ -38,9 +38,9 @@ is_generated number rack seed input rest before bytes desk leaves room lends end
   unfailed = none_failed;
   sound = are_sound;
   session =
-      subst (λ b. Holds (seed_of number) (seen_by (transition_by true (script_text (generated number)) rest) (transition_by true b bytes) (transition_by true desk leaves) (transition_by true room lends)) ended) none
-      (subst (λ i. Holds (seed_of number) (seen_by (transition_by true i rest) (transition_by true before bytes) (transition_by true desk leaves) (transition_by true room lends)) ended) same_input
-      (subst (λ s. Holds s (seen_by (transition_by true input rest) (transition_by true before bytes) (transition_by true desk leaves) (transition_by true room lends)) ended) same_seed session));
+      subst (λ b. Holds (seed_of number) false (seen_by (transition_by true (script_text (generated number)) rest) (transition_by true b bytes) (transition_by true desk leaves) (transition_by true room lends)) ended) none
+      (subst (λ i. Holds (seed_of number) false (seen_by (transition_by true i rest) (transition_by true before bytes) (transition_by true desk leaves) (transition_by true room lends)) ended) same_input
+      (subst (λ s. Holds s false (seen_by (transition_by true input rest) (transition_by true before bytes) (transition_by true desk leaves) (transition_by true room lends)) ended) same_seed session));
 }
 
 -- a new archive was made

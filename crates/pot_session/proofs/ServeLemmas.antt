@@ -1,6 +1,6 @@
 -- What passes know after steps, and how a session ends.
 use Rattle.std.proofs.Common.{◌≡◌, ◌<◌, ◌≤◌, ◌+◌, ◌++◌, ◌⊎◌, inl, inr, ℕ, zero, suc, Bool, true, false, cond, List, [], ◌∷◌, length, refl, sym, ap, subst, ◌∙◌, arith}
-use Rattle.std.specs.Prelude.{All, Contains, IsTrue, Option, Some, IfSome, Result, Ok, Err, IsErrOf, slice_index_or, flat_map}
+use Rattle.std.specs.Prelude.{All, Contains, IsTrue, Option, Some, IfSome, Result, Ok, Err, IfErr, IsErrOf, slice_index_or, flat_map}
 use Rattle.pot_bytes.specs.Rack.{log_bound}
 use Rattle.pot_bytes.specs.declared.rack.Rack.{Rack}
 use Rattle.pot_bytes.specs.declared.rack.Place.{Place}
@@ -47,7 +47,8 @@ use Rattle.pot_shared.proofs.Lists.{at_same}
 use Rattle.pot_session.proofs.CloseImages.{if_written}
 use Rattle.pot_session.proofs.LeftImage.{left_image, share_none}
 use Rattle.pot_session.proofs.LossLemmas.{lost_where_few}
-use Rattle.pot_session.specs.Serving.{Serves, Closed, Closes, IsCloseStop, IsEnd, OthersStay, setting_of, status_after}
+use Rattle.pot_session.specs.Desks.{IsKeepStop}
+use Rattle.pot_session.specs.Serving.{Serves, Closed, Closes, IsCloseStop, IsEnd, OthersStay, setting_of, status_after, status_by}
 
 -- THE TABLES
 
@@ -150,14 +151,14 @@ all_parts row h at l = (let p = h at l in omega (arith, p))
 -- THE END
 
 -- a session that worked its steps and closed
-pub serves_closed : (seed : List ℕ) (first : Contents) (steps : List Step) (room : Transition RoomState) (sink : Transition (List ℕ)) (desk : Transition (Content (Option (List ℕ)))) (rack : Rack) (session : ℕ) (old new : Known)
-    (e : Ending) (worked : ℕ) (closed : Result (Unit {0}) Stop) (answer : Status) → AreFirstPasses old.groups old.index → tables_read old.groups ≡ first.tables → records_read old.index ≡ first.records → rack ≡ first.rack
-    → session ≡ first.session → Ends rack seed session sink steps old new e → Fails room.before.failures worked (e ≡ ending.RoomFailed) → (closes : Closes old new room worked desk first closed)
+pub serves_closed : (seed : List ℕ) (careful : Bool) (first : Contents) (steps : List Step) (room : Transition RoomState) (sink : Transition (List ℕ)) (desk : Transition (Content (Option (List ℕ)))) (rack : Rack) (session : ℕ) (old new : Known)
+    (e : Ending) (worked : ℕ) (kept closed : Result (Unit {0}) Stop) (answer : Status) → AreFirstPasses old.groups old.index → tables_read old.groups ≡ first.tables → records_read old.index ≡ first.records → rack ≡ first.rack
+    → session ≡ first.session → Ends rack seed session sink steps old new e → Fails room.before.failures worked (e ≡ ending.RoomFailed) → (closes : Closes old new room worked desk first kept closed)
     → (IsTrue desk.tells → desk.before.held ≡ Some (image_bytes first)) → (IsTrue room.tells → (e ≡ ending.RoomFailed → ⊥) → OthersStay first.tables closes.last.group_logs room.before.means room.after.means)
-    → answer ≡ status_after e closed → FitsTogether first → length first.records + log_bound ≤ 4000000000
+    → answer ≡ status_by careful e kept closed → FitsTogether first → length first.records + log_bound ≤ 4000000000
     → AreApart (all_had first.tables closes.last.group_logs) → AreLow (all_had first.tables closes.last.group_logs)
-    → (AllOnlyWriters old new → (job : ℕ) → AreDrawn (pads_of seed session job) (blinds_by job old.groups new.groups)) → Serves seed first steps room sink desk answer
-serves_closed seed first steps room sink desk rack session old new e worked closed answer opened tables records same number ends fails closes kept others status fits space apart low blinds = Closed (record {
+    → (AllOnlyWriters old new → (job : ℕ) → AreDrawn (pads_of seed session job) (blinds_by job old.groups new.groups)) → Serves seed careful first steps room sink desk answer
+serves_closed seed careful first steps room sink desk rack session old new e worked kept closed answer opened tables records same number ends fails closes begins others status fits space apart low blinds = Closed (record {
   last = closes.last;
   story = section_of old new;
   ending = e;
@@ -173,10 +174,10 @@ serves_closed seed first steps room sink desk rack session old new e worked clos
   blinded = λ job some. (blinds_by job old.groups new.groups, closes.blinds job some, subst (λ n. AreDrawn (pads_of seed n job) (blinds_by job old.groups new.groups)) number (blinds closes.sole job));
   others = others;
   lost = λ told back none. lost_where_few (IsTrue room.tells) seed first closes.last room.before.means room.after.means closes.missing told fits closes.leaves.groups back none;
-  kept = closes.kept;
-  keeps = closes.keeps kept;
-  image = if_written closes.kept (λ whole. left_image room closes.missing first closes.last (section_of old new) closes.leaves fits apart low whole space) closes.whole;
-  status = status ∙ ap (λ r. status_after e r) closes.is;
+  kept = kept;
+  keeps = closes.keeps begins;
+  image = if_written kept (λ whole. left_image room closes.missing first closes.last (section_of old new) closes.leaves fits apart low whole space) closes.whole;
+  status = status ∙ ap (λ r. status_by careful e kept r) closes.is;
 })
 
 end_by : (refused : Bool) → IsEnd (cond refused status.Refusals status.Good)
@@ -235,3 +236,34 @@ desk_failed (ending.Done refused) (Err stop.RoomFault) is q = absurd (cc)
 desk_failed (ending.Done refused) (Err stop.DeskFault) is q = refl
 desk_failed (ending.Done refused) (Err stop.NoMemory) is q = absurd (cc)
 desk_failed (ending.Done refused) (Err _) is q = absurd is
+
+-- the same, where a careful session tells that its image was not kept
+pub end_by_kept : (careful : Bool) (e : Ending) (kept closed : Result (Unit {0}) Stop) → IfErr kept IsKeepStop → IsCloseStop closed → IsEnd (status_by careful e kept closed)
+end_by_kept true e (Ok u) closed k is = end_of e closed is
+end_by_kept true e (Err stop.DeskFault) closed k is = tt
+end_by_kept true e (Err stop.NoMemory) closed k is = tt
+end_by_kept true e (Err _) closed k is = absurd k
+end_by_kept false e kept closed k is = end_of e closed is
+
+pub sink_by_kept : (careful : Bool) (e : Ending) (kept closed : Result (Unit {0}) Stop) → IfErr kept IsKeepStop → IsCloseStop closed → status_by careful e kept closed ≡ status.SinkFault → e ≡ ending.SinkFailed
+sink_by_kept true e (Ok u) closed k is q = sink_failed e closed is q
+sink_by_kept true e (Err stop.DeskFault) closed k is q = absurd (cc)
+sink_by_kept true e (Err stop.NoMemory) closed k is q = absurd (cc)
+sink_by_kept true e (Err _) closed k is q = absurd k
+sink_by_kept false e kept closed k is q = sink_failed e closed is q
+
+pub room_by_kept : (careful : Bool) (e : Ending) (kept closed : Result (Unit {0}) Stop) → IfErr kept IsKeepStop → IsCloseStop closed → status_by careful e kept closed ≡ status.RoomFault
+    → (e ≡ ending.RoomFailed) ⊎ IsErrOf closed stop.RoomFault
+room_by_kept true e (Ok u) closed k is q = room_failed e closed is q
+room_by_kept true e (Err stop.DeskFault) closed k is q = absurd (cc)
+room_by_kept true e (Err stop.NoMemory) closed k is q = absurd (cc)
+room_by_kept true e (Err _) closed k is q = absurd k
+room_by_kept false e kept closed k is q = room_failed e closed is q
+
+pub desk_by_kept : (careful : Bool) (e : Ending) (kept closed : Result (Unit {0}) Stop) → IfErr kept IsKeepStop → IsCloseStop closed → (IsErrOf closed stop.DeskFault → IsErrOf kept stop.DeskFault)
+    → status_by careful e kept closed ≡ status.DeskFault → IsErrOf kept stop.DeskFault
+desk_by_kept true e (Ok u) closed k is first q = first (desk_failed e closed is q)
+desk_by_kept true e (Err stop.DeskFault) closed k is first q = refl
+desk_by_kept true e (Err stop.NoMemory) closed k is first q = absurd (cc)
+desk_by_kept true e (Err _) closed k is first q = absurd k
+desk_by_kept false e kept closed k is first q = first (desk_failed e closed is q)

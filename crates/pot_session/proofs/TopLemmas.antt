@@ -1,5 +1,5 @@
 -- What a refusal and a session say of the failures of objects.
-use Rattle.std.proofs.Common.{◌≡◌, ◌≤◌, ◌++◌, inl, inr, ℕ, List, [], refl, sym, ap, subst, ◌∙◌, arith}
+use Rattle.std.proofs.Common.{◌≡◌, ◌≤◌, ◌++◌, inl, inr, ℕ, Bool, List, [], refl, sym, ap, subst, ◌∙◌, arith}
 use Rattle.std.specs.Prelude.{IsTrue, Option, Result, Ok, Err, IfErr, flat_map}
 use Rattle.pot_outside.specs.Accounts.{Content, Transition, held_in, since, until}
 use Rattle.pot_outside.specs.Rooms.{RoomState}
@@ -80,11 +80,11 @@ init_room sink (Ok u) answer w (inr h) e = (let q : status.SinkFault ≡ status.
 init_room sink (Err s) answer w r e = subst IsMakeStop (refused_room sink s answer r e) w
 
 -- a session over a desk that failed before it too
-longer : (seed : List ℕ) (first : Contents) (steps : List Step) (room : Transition RoomState) (sink : Transition (List ℕ)) (desk : Transition (Content (Option (List ℕ)))) (mid : Content (Option (List ℕ))) (answer : Status)
-    → desk.before.faults ≤ mid.faults → Serves seed first steps room sink (since desk mid) answer → Serves seed first steps room sink desk answer
-longer seed first steps room sink desk mid answer le (Unlent why same holds unlent others) = Unlent why same holds unlent others
-longer seed first steps room sink desk mid answer le (Unopened why same holds others) = Unopened why same holds others
-longer seed first steps room sink desk mid answer le (Closed c) = Closed (record {
+longer : (seed : List ℕ) (careful : Bool) (first : Contents) (steps : List Step) (room : Transition RoomState) (sink : Transition (List ℕ)) (desk : Transition (Content (Option (List ℕ)))) (mid : Content (Option (List ℕ))) (answer : Status)
+    → desk.before.faults ≤ mid.faults → Serves seed careful first steps room sink (since desk mid) answer → Serves seed careful first steps room sink desk answer
+longer seed careful first steps room sink desk mid answer le (Unlent why same holds unlent others) = Unlent why same holds unlent others
+longer seed careful first steps room sink desk mid answer le (Unopened why same holds others) = Unopened why same holds others
+longer seed careful first steps room sink desk mid answer le (Closed c) = Closed (record {
   last = c.last;
   story = c.story;
   ending = c.ending;
@@ -112,19 +112,19 @@ longer seed first steps room sink desk mid answer le (Closed c) = Closed (record
 })
 
 -- a session that was prepared and served
-pub served : (seed : List ℕ) (seen : Seen) (answer : Status) (image : Image) (steps used : List Step) (mid : Content (Option (List ℕ))) → IsPrepared seen.source (until (held_in seen.desk) mid.held) image steps
-    → (IsTrue seen.source.tells → seen.source.after ≡ []) → used ≡ steps → Serves seed (contents image) used seen.room seen.sink (since seen.desk mid) answer → IsEnd answer
-    → Untouched (flat_map archives_in image.tables.items ++ asked_by used) seen.room.before seen.room.after → seen.desk.before.faults ≤ mid.faults → Holds seed seen answer
-served seed seen answer image steps used mid p read same serves is untouched le =
+pub served : (seed : List ℕ) (careful : Bool) (seen : Seen) (answer : Status) (image : Image) (steps used : List Step) (mid : Content (Option (List ℕ))) → IsPrepared seen.source (until (held_in seen.desk) mid.held) image steps
+    → (IsTrue seen.source.tells → seen.source.after ≡ []) → used ≡ steps → Serves seed careful (contents image) used seen.room seen.sink (since seen.desk mid) answer → IsEnd answer
+    → Untouched (flat_map archives_in image.tables.items ++ asked_by used) seen.room.before seen.room.after → seen.desk.before.faults ≤ mid.faults → Holds seed careful seen answer
+served seed careful seen answer image steps used mid p read same serves is untouched le =
     Served p.read steps (record { goes_on = p.of.goes_on; image = p.of.image; script = p.of.script }) (subst IsImage p.is p.rules) read
-    (subst (λ v. Serves seed v steps seen.room seen.sink seen.desk answer) p.is
-    (subst (λ cs. Serves seed (contents image) cs seen.room seen.sink seen.desk answer) same
-    (longer seed (contents image) used seen.room seen.sink seen.desk mid answer le serves))) is
+    (subst (λ v. Serves seed careful v steps seen.room seen.sink seen.desk answer) p.is
+    (subst (λ cs. Serves seed careful (contents image) cs seen.room seen.sink seen.desk answer) same
+    (longer seed careful (contents image) used seen.room seen.sink seen.desk mid answer le serves))) is
     (λ n none. untouched n (ap (λ ts. times n (flat_map archives_in ts ++ asked_by used)) (ap (λ v. v.tables) p.is) ∙ (ap (λ cs. times n (flat_map archives_in p.read.tables.items ++ asked_by cs)) same ∙ none)))
 
 -- a session with the seed of its words
-pub with_seed : (words : List Text) (drawn seed : List ℕ) (run : Run) (seen : Seen) (answer : Status) → seed ≡ seed_of run drawn → SpellTask words (task.Run run) → Holds seed seen answer → Runs words drawn seen answer
-with_seed words drawn seed run seen answer e spelled holds = Session run spelled (subst (λ s. Holds s seen answer) e holds)
+pub with_seed : (words : List Text) (drawn seed : List ℕ) (run : Run) (seen : Seen) (answer : Status) → seed ≡ seed_of run drawn → SpellTask words (task.Run run) → Holds seed run.careful seen answer → Runs words drawn seen answer
+with_seed words drawn seed run seen answer e spelled holds = Session run spelled (subst (λ s. Holds s run.careful seen answer) e holds)
 
 -- 8 is the code of a failed room alone
 pub room_code : (s : Status) → code_of s ≡ 8 → s ≡ status.RoomFault

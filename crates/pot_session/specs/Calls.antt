@@ -37,7 +37,8 @@ pub data Runs (words : List Text) (drawn : List ℕ) (seen : Seen) (answer : Sta
   Makes : (rack : Rack) → SpellTask words (task.Init rack) → Stays seen.source
       → Inits rack (held_in seen.desk) seen.sink answer → MeansStay seen.room
       → Runs words drawn seen answer
-  Session : (run : Run) → SpellTask words (task.Run run) → Holds (seed_of run drawn) seen answer
+  Session : (run : Run) → SpellTask words (task.Run run)
+      → Holds (seed_of run drawn) run.careful seen answer
       → Runs words drawn seen answer
   Drilling : (d : Drill) → SpellTask words (task.Drill d)
       → Drills d drawn seen.source seen.sink answer → Stays (held_in seen.desk)

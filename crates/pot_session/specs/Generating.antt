@@ -40,7 +40,7 @@ pub record IsGenerated (number : ℕ) (bytes : List ℕ) (ended : Status) : Type
   pub empty : (n : ℕ) → room.means n ≡ meaning_of None
   pub unfailed : room.failures ≡ 0
   pub sound : AreSound lends.means
-  pub session : Holds (seed_of number)
+  pub session : Holds (seed_of number) false
       (seen_by (transition_by true (script_text (generated number)) rest)
       (transition_by true [] bytes) (transition_by true desk leaves)
       (transition_by true room lends))

@@ -1,6 +1,6 @@
 -- What a session comes to that the words ask for, by the bytes of the source, what the sink got,
 -- what the desk held and holds, and what the room meant and means.
-use Rattle.std.specs.Prelude.{◌≡◌, ◌++◌, ℕ, List, [], Option, Some, Err, flat_map, IsTrue}
+use Rattle.std.specs.Prelude.{◌≡◌, ◌++◌, ℕ, Bool, List, [], Option, Some, Err, flat_map, IsTrue}
 use Rattle.pot_outside.specs.Accounts.{Content, Transition, Stays, held_in}
 use Rattle.pot_outside.specs.Rooms.{RoomState, MeansStay}
 use Rattle.pot_script.specs.declared.grouping.Step.{Step}
@@ -66,15 +66,15 @@ pub data Stops (source : Transition (List ℕ)) (desk : Transition (Option (List
 -- THE WHOLE
 
 -- A session did not begin, and it is written why; or it began, one session on from the image that
--- was read, with an image that keeps the rules of images, and ended so. Archives that neither this image names nor a step asks for were
--- not touched.
-pub data Holds (seed : List ℕ) (seen : Seen) (answer : Status) : Type 0 where
+-- was read, with an image that keeps the rules of images, and ended so. Archives that neither this
+-- image names nor a step asks for were not touched.
+pub data Holds (seed : List ℕ) (careful : Bool) (seen : Seen) (answer : Status) : Type 0 where
   Stopped : (s : Stop) → Stops seen.source (held_in seen.desk) s → Refuses seen.sink s answer
-      → MeansStay seen.room → Holds seed seen answer
+      → MeansStay seen.room → Holds seed careful seen answer
   Served : (i : Image) (steps : List Step) → IsOf seen.source (held_in seen.desk) i steps
       → IsImage (begun (contents i)) → (IsTrue seen.source.tells → seen.source.after ≡ [])
-      → Serves seed (begun (contents i)) steps seen.room seen.sink seen.desk answer
+      → Serves seed careful (begun (contents i)) steps seen.room seen.sink seen.desk answer
       → IsEnd answer
       → Untouched (flat_map archives_in i.tables.items ++ asked_by steps) seen.room.before
       seen.room.after
-      → Holds seed seen answer
+      → Holds seed careful seen answer

@@ -1,6 +1,7 @@
 -- What a session leaves: the replies of its steps, and the image of its close with the logs by
 -- which they have them.
-use Rattle.std.specs.Prelude.{◌≡◌, ◌<◌, ◌≤◌, ℕ, true, List, [], ◌∷◌, Option, Some, Result, Ok, Err}
+use Rattle.std.specs.Prelude.{◌≡◌, ◌<◌, ◌≤◌, ℕ, Bool, true, false, List, [], ◌∷◌}
+use Rattle.std.specs.Prelude.{Option, Some, Result, Ok, Err}
 use Rattle.std.specs.Prelude.{IfErr, flat_map, if◌then◌else◌, length, map, slice_index_or, IsTrue}
 use Rattle.pot_bytes.specs.Rack.{log_bound}
 use Rattle.pot_outside.specs.Accounts.{Content, Transition, Stays, held_in, since}
@@ -104,10 +105,11 @@ pub record KeepsLast (desk : Transition (Content (Option (List ℕ)))) (first la
 
 -- A close leaves this image: nobody else logged anything since the passes knew the first, and its
 -- logs are what they saw, with the blinds of the relays. `worked` is how often the room had failed
--- itself before the close.
+-- itself before the close. `kept` says whether the desk has the image, and `closed` what failed
+-- first.
 pub record Closes (old new : Known) (room : Transition RoomState) (worked : ℕ)
     (desk : Transition (Content (Option (List ℕ)))) (first : Contents)
-    (closed : Result (Unit {0}) Stop) : Type 0 where
+    (kept closed : Result (Unit {0}) Stop) : Type 0 where
   pub last : Contents
   pub sole : AllOnlyWriters old new
   pub missing : List ℕ
@@ -115,7 +117,6 @@ pub record Closes (old new : Known) (room : Transition RoomState) (worked : ℕ)
   pub leaves : Leaves room missing first last (section_of old new)
   pub blinds : (job : ℕ) → 0 < job
       → HaveBlinds leaves.groups job (blinds_by job old.groups new.groups)
-  pub kept : Result (Unit {0}) Stop
   pub whole : IfWritten kept (IsWhole last)
   pub keeps : (IsTrue desk.tells → desk.before.held ≡ Some (image_bytes first))
       → KeepsLast desk first last kept
@@ -137,13 +138,20 @@ IsCloseStop (Err stop.DeskFault) = Unit {0}
 IsCloseStop (Err stop.NoMemory) = Unit {0}
 IsCloseStop (Err _) = ⊥
 
--- the status of a session, by how its steps and its close ended: the first failure gives it
+-- the status of a session by the first failure, of its steps or of its close
 abbrev pub status_after : Ending → Result (Unit {0}) Stop → Status
 status_after ending.SinkFailed closed = status.SinkFault
 status_after ending.RoomFailed closed = status.RoomFault
 status_after ending.NoMemory closed = status.NoMemory
 status_after (ending.Done refused) (Err s) = status_of s
 status_after (ending.Done refused) (Ok u) = if refused then status.Refusals else status.Good
+
+-- The status of a session. Where a careful one could not keep the image of its close, that gives
+-- it, whatever failed before.
+abbrev pub status_by : Bool → Ending → (kept closed : Result (Unit {0}) Stop) → Status
+status_by true e (Err s) closed = status_of s
+status_by true e (Ok u) closed = status_after e closed
+status_by false e kept closed = status_after e closed
 
 -- THE WHOLE
 
@@ -182,8 +190,9 @@ pub record ShareNone (first last : Contents) : Type 0 where
 -- have their replies. Each relay of a job began with a blind that is drawn from the job's stream.
 -- The room failed itself at the steps exactly where they ended so, and in the close at each archive
 -- that is missing and at no other; `worked` is how often it had failed once the steps had ended.
-pub record IsClosed (seed : List ℕ) (first : Contents) (steps : List Step) (room : Transition RoomState)
-    (sink : Transition (List ℕ)) (desk : Transition (Content (Option (List ℕ)))) (answer : Status) : Type 0 where
+pub record IsClosed (seed : List ℕ) (careful : Bool) (first : Contents) (steps : List Step)
+    (room : Transition RoomState) (sink : Transition (List ℕ))
+    (desk : Transition (Content (Option (List ℕ)))) (answer : Status) : Type 0 where
   pub last : Contents
   pub story : Section
   pub ending : Ending
@@ -203,24 +212,25 @@ pub record IsClosed (seed : List ℕ) (first : Contents) (steps : List Step) (ro
   pub kept : Result (Unit {0}) Stop
   pub keeps : KeepsLast desk first last kept
   pub image : IfWritten kept (IsImage last)
-  pub status : answer ≡ status_after ending (close_answer missing kept)
+  pub status : answer ≡ status_by careful ending kept (close_answer missing kept)
 
 -- What a session comes to that begins with this image: before any step was worked the room did not
 -- give its archives, and those that it got back are as they were; or memory ran out before, and
 -- those that it got back are as they were but for losses that they counted; or it closed. Archives
 -- that the image does not name were not touched before the steps.
-pub data Serves (seed : List ℕ) (first : Contents) (steps : List Step) (room : Transition RoomState)
-    (sink : Transition (List ℕ)) (desk : Transition (Content (Option (List ℕ)))) (answer : Status) : Type 0 where
+pub data Serves (seed : List ℕ) (careful : Bool) (first : Contents) (steps : List Step)
+    (room : Transition RoomState) (sink : Transition (List ℕ))
+    (desk : Transition (Content (Option (List ℕ)))) (answer : Status) : Type 0 where
   Unlent : answer ≡ status.RoomFault → Stays sink
       → (IsTrue desk.tells → desk.after.held ≡ Some (image_bytes first)) → IsUnlent room
       → Untouched (flat_map archives_in first.tables) room.before room.after
-      → Serves seed first steps room sink desk answer
+      → Serves seed careful first steps room sink desk answer
   Unopened : answer ≡ status.NoMemory → Stays sink
       → (IsTrue desk.tells → desk.after.held ≡ Some (image_bytes first))
       → IsUnopened room × Untouched (flat_map archives_in first.tables) room.before room.after
-      → Serves seed first steps room sink desk answer
-  Closed : IsClosed seed first steps room sink desk answer
-      → Serves seed first steps room sink desk answer
+      → Serves seed careful first steps room sink desk answer
+  Closed : IsClosed seed careful first steps room sink desk answer
+      → Serves seed careful first steps room sink desk answer
 
 -- how a session may end
 abbrev pub IsEnd : Status → Type 0

@@ -84,6 +84,7 @@ fn run_in_memory<X: Threads + Wait + Sync>(
             gate: &OpenGate,
         },
         workers: generator_workers(),
+        careful: false,
     };
     let status = hold(&staff, &mut source, &mut sink, &mut room, &mut desk);
     if !are_sound(&room) {

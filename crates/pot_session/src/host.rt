@@ -15,11 +15,13 @@ pub(crate) struct Host<'a, X, W> {
     pub gate: &'a W,
 }
 
-/// Who works a session: the workers of its batches, with what its call works with.
+/// Who works a session, and how: the workers of its batches, with what its call works with.
 #[derive(Drop)]
 pub(crate) struct Staff<'a, X, W> {
     /// What its call works with.
     pub host: Host<'a, X, W>,
     /// On how many workers the lines of a batch are worked.
     pub workers: u8,
+    /// Whether a close that could not keep its image tells so, whatever failed before.
+    pub careful: bool,
 }

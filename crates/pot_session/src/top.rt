@@ -78,6 +78,7 @@ fn answer<S: Source, K: Sink, R: Room, D: Desk, W: Gate, X: Threads + Wait + Syn
                     gate: host.gate,
                 },
                 workers: run.workers,
+                careful: run.careful,
             };
             hold(&staff, source, sink, room, desk)
         }

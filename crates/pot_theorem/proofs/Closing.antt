@@ -1,5 +1,5 @@
 -- A run has one session that closed, or none; and one that closed has replies.
-use Rattle.std.proofs.Common.{◌≡◌, ◌⊎◌, inl, inr, ℕ, List, [], ◌∷◌, ◌++◌, sym, ◌∙◌, append-nil, append_assoc}
+use Rattle.std.proofs.Common.{◌≡◌, ◌⊎◌, inl, inr, ℕ, Bool, List, [], ◌∷◌, ◌++◌, sym, ◌∙◌, append-nil, append_assoc}
 use Rattle.pot_outside.specs.Accounts.{held_in}
 use Rattle.pot_script.specs.declared.grouping.Step.{Step}
 use Rattle.pot_image.specs.declared.image.Image.{Image}
@@ -21,19 +21,19 @@ use Rattle.pot_session.specs.Serving.{Serves, Closed, Unlent, Unopened, setting_
 use Rattle.pot_promises.proofs.Running.{WroteFirst, all_written, cut_written, none_behind, whole_follows}
 use Rattle.pot_theorem.specs.Sessions.{HasAnswered, HasReplies, NoneClosed, RanToClose, RunsClose, RunsReply}
 
-served : (seed : List ℕ) (seen : Seen) (answer : Status) (i : Image) (steps : List Step) → IsOf seen.source (held_in seen.desk) i steps → FitsTogether (begun (contents i))
-    → Serves seed (begun (contents i)) steps seen.room seen.sink seen.desk answer → RanToClose seed seen answer ⊎ NoneClosed seen.room
-served seed seen answer i steps of fits (Unlent is stays kept unlent others) = inr (inr (inl unlent))
-served seed seen answer i steps of fits (Unopened is stays kept unopened) = inr (inr (inr unopened.0))
-served seed seen answer i steps of fits (Closed closed) = inl (record { read = i; steps = steps; of = of; fits = fits; closed = closed })
+served : (seed : List ℕ) (careful : Bool) (seen : Seen) (answer : Status) (i : Image) (steps : List Step) → IsOf seen.source (held_in seen.desk) i steps → FitsTogether (begun (contents i))
+    → Serves seed careful (begun (contents i)) steps seen.room seen.sink seen.desk answer → RanToClose seed careful seen answer ⊎ NoneClosed seen.room
+served seed careful seen answer i steps of fits (Unlent is stays kept unlent others) = inr (inr (inl unlent))
+served seed careful seen answer i steps of fits (Unopened is stays kept unopened) = inr (inr (inr unopened.0))
+served seed careful seen answer i steps of fits (Closed closed) = inl (record { read = i; steps = steps; of = of; fits = fits; closed = closed })
 
 pub runs_close : RunsClose
-runs_close seed seen answer (Stopped s stops refuses same) = inr (inl same)
-runs_close seed seen answer (Served i steps of rules told serves ends untouched) = served seed seen answer i steps of rules.together serves
+runs_close seed careful seen answer (Stopped s stops refuses same) = inr (inl same)
+runs_close seed careful seen answer (Served i steps of rules told serves ends untouched) = served seed careful seen answer i steps of rules.together serves
 
 -- THE REPLIES
 
-module _ (seed : List ℕ) (seen : Seen) (answer : Status) (r : RanToClose seed seen answer) where
+module _ (seed : List ℕ) (careful : Bool) (seen : Seen) (answer : Status) (r : RanToClose seed careful seen answer) where
   abbrev Replies : List Step → List Reply → Type 0
   Replies ss rs = HasReplies seed (begun (contents r.read)) r.closed.story ss rs
 
@@ -59,4 +59,4 @@ module _ (seed : List ℕ) (seen : Seen) (answer : Status) (r : RanToClose seed 
   by_ending ending.NoMemory ends = short IsStepLeft ends
 
 pub runs_reply : RunsReply
-runs_reply seed seen answer r = by_ending seed seen answer r r.closed.ending r.closed.ends
+runs_reply seed careful seen answer r = by_ending seed careful seen answer r r.closed.ending r.closed.ends

@@ -1,6 +1,6 @@
 -- Sessions of runs that closed, one after another, and what is asked of them.
-use Rattle.std.specs.Prelude.{◌≡◌, ◌⊎◌, ◌≤◌, ◌<◌, ◌+◌, ◌*◌, ◌^◌, ◌++◌, ℕ, IsTrue, All, Contains}
-use Rattle.std.specs.Prelude.{List, [], ◌∷◌, Some, flat_map, length, map}
+use Rattle.std.specs.Prelude.{◌≡◌, ◌⊎◌, ◌≤◌, ◌<◌, ◌+◌, ◌*◌, ◌^◌, ◌++◌, ℕ, Bool, IsTrue, All}
+use Rattle.std.specs.Prelude.{Contains, List, [], ◌∷◌, Some, flat_map, length, map}
 use Rattle.std.specs.List.{range_with_len}
 use Rattle.pot_bytes.specs.declared.rack.Rack.{Rack}
 use Rattle.pot_bytes.specs.Rack.{log_bound}
@@ -48,17 +48,19 @@ pub record ClosedSession : Type 0 where
   pub apart : ShareNone first last
 
 -- a run whose session closed
-pub record RanToClose (seed : List ℕ) (seen : Seen) (answer : Status) : Type 0 where
+pub record RanToClose (seed : List ℕ) (careful : Bool) (seen : Seen)
+    (answer : Status) : Type 0 where
   pub read : Image
   pub steps : List Step
   pub of : IsOf seen.source (held_in seen.desk) read steps
   pub fits : FitsTogether (begun (contents read))
-  pub closed : IsClosed seed (begun (contents read)) steps seen.room seen.sink seen.desk answer
+  pub closed : IsClosed seed careful (begun (contents read)) steps seen.room seen.sink seen.desk
+      answer
 
 -- its session
-abbrev pub session_of : {seed : List ℕ} {seen : Seen} {answer : Status}
-    → RanToClose seed seen answer → IsTrue seen.room.tells → ClosedSession
-session_of {seed} {seen} {answer} r told =
+abbrev pub session_of : {seed : List ℕ} {careful : Bool} {seen : Seen} {answer : Status}
+    → RanToClose seed careful seen answer → IsTrue seen.room.tells → ClosedSession
+session_of {seed} {careful} {seen} {answer} r told =
     record {
       first = begun (contents r.read);
       last = r.closed.last;
@@ -79,8 +81,8 @@ NoneClosed room = MeansStay room ⊎ (IsUnlent room ⊎ IsUnopened room)
 -- A run of the program has one session that closed, or none.
 abbrev pub RunsClose : Type 0
 RunsClose =
-    (seed : List ℕ) (seen : Seen) (answer : Status) → Holds seed seen answer
-    → RanToClose seed seen answer ⊎ NoneClosed seen.room
+    (seed : List ℕ) (careful : Bool) (seen : Seen) (answer : Status)
+    → Holds seed careful seen answer → RanToClose seed careful seen answer ⊎ NoneClosed seen.room
 
 -- THE REPLIES OF A SESSION
 
@@ -94,8 +96,8 @@ pub record HasReplies (seed : List ℕ) (first : Contents) (story : Section) (ss
   pub replied : Replied (Row (setting_of seed first)) 1 (steps_of ss) rs done
 
 -- The first steps of a run have replies so, and all that the run wrote is of their texts.
-pub record HasAnswered {seed : List ℕ} {seen : Seen} {answer : Status}
-    (r : RanToClose seed seen answer) : Type 0 where
+pub record HasAnswered {seed : List ℕ} {careful : Bool} {seen : Seen} {answer : Status}
+    (r : RanToClose seed careful seen answer) : Type 0 where
   pub answered : List Step
   pub rest : List Step
   pub parts : r.steps ≡ answered ++ rest
@@ -106,8 +108,8 @@ pub record HasAnswered {seed : List ℕ} {seen : Seen} {answer : Status}
 
 abbrev pub RunsReply : Type 0
 RunsReply =
-    (seed : List ℕ) (seen : Seen) (answer : Status) (r : RanToClose seed seen answer)
-    → HasAnswered r
+    (seed : List ℕ) (careful : Bool) (seen : Seen) (answer : Status)
+    (r : RanToClose seed careful seen answer) → HasAnswered r
 
 -- WHICH ARCHIVES IT HAD
 

@@ -35,7 +35,10 @@ module _ (value : Text → Option Text) where
       )
 
   pub run_unhyphened : (run : Run) → HasRun run value → AreUnhyphenedAt value run_names
-  run_unhyphened run has = (unhyphened_seed value _ run.seed has.0, (unhyphened_number_or value _ 1 16 4 run.workers (omega arith) has.1, tt))
+  run_unhyphened run has = (
+    unhyphened_seed value _ run.seed has.0,
+    (unhyphened_number_or value _ 1 16 4 run.workers (omega arith) has.1, (unhyphened_yes value _ run.careful has.2, tt)),
+  )
 
   pub recover_unhyphened : (r : Recover) → HasRecover r value → AreUnhyphenedAt value recover_names
   recover_unhyphened r has = (

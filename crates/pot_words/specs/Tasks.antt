@@ -44,12 +44,13 @@ abbrev pub SpellInit : List Text → Rack → Type 0
 SpellInit words rack = SpellOptions init_names (HasInit rack) words
 
 abbrev pub run_names : List Text
-run_names = codes "seed" ∷ codes "workers" ∷ []
+run_names = codes "seed" ∷ codes "workers" ∷ codes "careful" ∷ []
 
 -- four workers are meant where none are named
 abbrev pub HasRun : Run → (Text → Option Text) → Type 0
 HasRun run value = HasSeed value (codes "seed") run.seed
     × HasNumberOr value (codes "workers") 1 16 4 run.workers
+    × HasYes value (codes "careful") run.careful
 
 -- the words spell the options of `run`
 abbrev pub SpellRun : List Text → Run → Type 0

@@ -7,7 +7,7 @@ ghost use Rattle.pot_words.specs.Answers.{IsOnly};
 ghost use Rattle.pot_words.specs.Tasks.{HasRun, SpellRun};
 ghost use Rattle.pot_words.specs.declared.run.Run.{Run};
 
-use crate::values::{seed_of, small_number_or};
+use crate::values::{seed_of, small_number_or, yes_of};
 use pot_bytes::NoMemory;
 use pot_options::{Options, read_options};
 use std::alloc::Global;
@@ -19,9 +19,11 @@ pub struct Run {
     pub seed: Option<[u8; 32]>,
     /// The number of workers, 1 to 16; 4 where it is not stated.
     pub workers: u8,
+    /// Whether a close that could not keep its image tells so, whatever failed before.
+    pub careful: bool,
 }
 
-static NAMES: [&str; 2] = ["seed", "workers"];
+static NAMES: [&str; 3] = ["seed", "workers", "careful"];
 
 /// The task that the words after `run` spell.
 pub fn read_run(alloc: Global, words: &[String]) -> Result<Option<Run>, NoMemory>
@@ -39,5 +41,10 @@ fn run_of(options: &Options<'_>) -> Option<Run>
 {
     let seed = seed_of(options, "seed")?;
     let workers = small_number_or(options, "workers", 1, 16, 4)?;
-    Some(Run { seed, workers })
+    let careful = yes_of(options, "careful")?;
+    Some(Run {
+        seed,
+        workers,
+        careful,
+    })
 }

@@ -133,8 +133,9 @@ fn run(rt: HostRuntime) -> Result<(), Fail> {
     let plain = Run {
         seed: None,
         workers: 4,
+        careful: false,
     };
-    let good: [(&str, Run); 6] = [
+    let good: [(&str, Run); 8] = [
         ("run", plain),
         (
             "run --workers 1",
@@ -169,6 +170,16 @@ fn run(rt: HostRuntime) -> Result<(), Fail> {
             Run {
                 seed: Some(seed),
                 workers: 2,
+                ..plain
+            },
+        ),
+        ("run --careful no", plain),
+        (
+            "run --careful=yes --workers 2",
+            Run {
+                workers: 2,
+                careful: true,
+                ..plain
             },
         ),
     ];
@@ -194,6 +205,9 @@ fn refused_runs(rt: HostRuntime) -> Result<(), Fail> {
         "run --workers 5.",
         "run --workers 0x5",
         "run --workers 18446744073709551620",
+        "run --careful",
+        "run --careful true",
+        "run --careful yes --careful yes",
         "run --",
         "run --workers 5 --",
         "run --work 5",

@@ -62,7 +62,7 @@ pub fn work<X: Threads + Wait + Sync>(
 ) -> Result<Vec<Reply>, Stop> {
     commands.push(Command::List)?;
     let script = script_of(visit.alloc(), commands)?;
-    let words = words_of(visit.alloc(), "run")?;
+    let words = words_of(visit.alloc(), "run --careful yes")?;
     let ran = call(turns, visit, &words, script)?;
     if ran.status > 1 {
         return Err(ended(visit, &ran));
@@ -163,7 +163,8 @@ fn reason(status: u8) -> &'static str {
         2 => "these numbers are beyond the limits: see pots help, and the limits in potshards(1)",
         3 =>
             "the session refused its script: see that the numbers given are below those of pots status",
-        5 => "memory ran out for the replies: fetch or store less at a time",
+        5 =>
+            "memory ran out for the replies, and what was stored is kept: pots list names it; fetch or store less at a time",
         6 =>
             "the desk could not be locked, read or replaced: see that no other program works in this folder and that its disk has room; what pots list does not name is to be stored again",
         7 => "no session can begin with the desk's image: see potshards-recovery(7)",

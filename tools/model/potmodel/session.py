@@ -38,7 +38,7 @@ def work_words(task, drawn, source, sink, room, desk):
     if task[0] == "init":
         return init(task[1], sink, desk)
     if task[0] == "run":
-        return serve(task[1] or drawn, source, sink, room, desk)
+        return serve(task[1] or drawn, task[3], source, sink, room, desk)
     if task[0] == "drill":
         return work_drill(task, drawn, source)
     if task[0] == "audit":
@@ -106,8 +106,8 @@ def image_of(desk):
     return image
 
 
-def serve(seed, source, sink, room, desk):
-    """A session: its image and its script, the image with which it begins, its commands, and its close."""
+def serve(seed, is_careful, source, sink, room, desk):
+    """A session: its image and its script, the image with which it begins, its commands, and its close. Of a careful one an image that was not kept gives the status."""
     image = image_of(desk)
     try:
         commands = read_script(read_source(source, LONGEST_SCRIPT), image.rack.groups)
@@ -120,7 +120,7 @@ def serve(seed, source, sink, room, desk):
     groups = [start_group(number, table, archives) for number, table in enumerate(image.tables)]
     vault = Vault(image.rack, groups, Index(image.records), room, seed, image.session)
     status = work_commands(vault, commands, sink)
-    return close(image, vault, room, desk, status)
+    return close(image, vault, room, desk, status, is_careful)
 
 
 def take_archives(image, room):
@@ -169,7 +169,7 @@ def work_commands(vault, commands, sink):
     return status
 
 
-def close(image, vault, room, desk, status):
+def close(image, vault, room, desk, status, is_careful):
     """Gives all archives back and puts the image of the close in place; a failure counts where none came before."""
     took_all = give_all({number: archive for group in vault.groups for number, archive in group.archives.items()}, room)
     if not took_all and status in (0, 1):
@@ -179,7 +179,7 @@ def close(image, vault, room, desk, status):
     try:
         replace(desk, Image(image.session, image.rack, tables, records, logs, vault.index.log))
     except End:
-        return 6 if status in (0, 1) else status
+        return 6 if is_careful or status in (0, 1) else status
     return status
 
 

@@ -81,10 +81,10 @@ def read_init(words):
 
 
 def read_run(words):
-    """`run`: a seed, empty where it is to be drawn, and a number of workers."""
-    reader = Reader(words, {"seed", "workers"})
-    seed, workers = reader.seed(), reader.number("workers", 1, 16, 4)
-    return ("run", seed, workers) if reader.is_fine else None
+    """`run`: a seed, empty where it is to be drawn, a number of workers, and whether it is careful."""
+    reader = Reader(words, {"seed", "workers", "careful"})
+    seed, workers, careful = reader.seed(), reader.number("workers", 1, 16, 4), (reader.values or {}).get("careful", "no")
+    return ("run", seed, workers, careful == "yes") if reader.is_fine and careful in ("yes", "no") else None
 
 
 def read_recover(words):

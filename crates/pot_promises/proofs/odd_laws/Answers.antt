@@ -1,5 +1,6 @@
 use Rattle.pot_promises.proofs.Odds.{never_odd, odd_reads}
+use Rattle.pot_promises.proofs.OddsLater.{never_odd_later}
 use Rattle.pot_promises.proofs.odd_laws.Goals as goal
 
 pub returns : goal.returns
-returns c = record { odd_reads = odd_reads; never_odd = never_odd }
+returns c = record { odd_reads = odd_reads; never_odd = never_odd; never_odd_later = never_odd_later }

@@ -1,11 +1,12 @@
 //! How a session closes.
 
-ghost use Rattle.std.specs.Prelude.{◌≡◌, ℕ, IsTrue, IsErr, IsErrOf, false};
+ghost use Rattle.std.specs.Prelude.{◌≡◌, ℕ, IsTrue, IfErr, IsErr, IsErrOf, false};
 ghost use Rattle.pot_outside.specs.Accounts.{Faults, transition_by, whole_transition};
 ghost use Rattle.pot_outside.specs.Rooms.{IsHome};
 ghost use Rattle.pot_outside.specs.Counts.{Caused};
 ghost use Rattle.pot_shelves.specs.Shelves.{numbers_of};
 ghost use Rattle.pot_commands.specs.Holding.{AreOut, Untouched};
+ghost use Rattle.pot_session.specs.Desks.{IsKeepStop};
 ghost use Rattle.pot_session.specs.Giving.{GivesBack};
 ghost use Rattle.pot_session.specs.Opened.{CanClose, IsStartOf, Start};
 ghost use Rattle.pot_session.specs.Serving.{Closes, IsCloseStop, first_failure};
@@ -30,19 +31,27 @@ pub(crate) struct Opened<A: Archive> {
     pub remains: Remains<A>,
 }
 
+/// How a session closed.
+#[derive(Drop)]
+pub(crate) struct Close {
+    /// Whether the image of the close is the desk's: `DeskFault` or `NoMemory` where it may not be.
+    pub kept: Result<(), Stop>,
+    /// The first failure: of the room, or of what came after it.
+    pub first: Result<(), Stop>,
+}
+
 /// Closes a session: ends its vault, gives all archives back, and puts the image of the close in
-/// the place of the desk's. Each is tried, whatever became of those before.
+/// the place of the desk's. Each is tried, whatever became of those before. No archive is out then,
+/// and those at which the room did not fail are in it.
 ///
-/// # Errors
-/// The first failure: `RoomFault` exactly where the room itself failed at an archive, `DeskFault`
-/// only where the desk's count of faults rose, or `NoMemory`. No archive is out then either, and
-/// those at which the room did not fail are in it.
+/// A failure is `RoomFault` exactly where the room itself failed at an archive, `DeskFault` only
+/// where the desk's count of faults rose, or `NoMemory`.
 pub(crate) fn close_session<R: Room, D: Desk>(
     alloc: Global,
     opened: Opened<R::A>,
     room: &mut R,
     desk: &mut D,
-) -> Result<(), Stop>
+) -> Close
     requires { CanClose (R.meaning room.old) opened }
     ensures home { IsHome (R.meaning room.new) }
     ensures untouched { (n : ℕ) → (R.meaning room.old).out n ≡ false
@@ -51,13 +60,16 @@ pub(crate) fn close_session<R: Room, D: Desk>(
     ensures closes { (s : Start) → IsStartOf (IsTrue R.A.account.tells) s opened
         → Closes s.old opened.passes
         (transition_by R.A.account.tells s.room (R.meaning room.new))
-        (R.meaning room.old).failures (whole_transition D.account desk.old desk.new) s.first result }
-    ensures which { IsCloseStop result }
+        (R.meaning room.old).failures (whole_transition D.account desk.old desk.new) s.first
+        result.kept result.first }
+    ensures which { IsCloseStop result.first }
+    ensures which_kept { IfErr result.kept IsKeepStop }
     ensures room { Caused (R.meaning room.old).faults (R.meaning room.new).faults
-        (IsErrOf result Stop.RoomFault) }
+        (IsErrOf result.first Stop.RoomFault) }
     ensures own { Caused (R.meaning room.old).failures (R.meaning room.new).failures
-        (IsErrOf result Stop.RoomFault) }
-    ensures desk { Faults D.account desk.old desk.new (IsErrOf result Stop.DeskFault) }
+        (IsErrOf result.first Stop.RoomFault) }
+    ensures desk { Faults D.account desk.old desk.new (IsErrOf result.kept Stop.DeskFault) }
+    ensures first { IsErrOf result.first Stop.DeskFault → IsErrOf result.kept Stop.DeskFault }
 {
     let Opened {
         session,
@@ -84,7 +96,10 @@ pub(crate) fn close_session<R: Room, D: Desk>(
         index_log,
     };
     let kept = keep_image(alloc, &image, desk);
-    first_failure(given, kept)
+    Close {
+        kept,
+        first: first_failure(given, kept),
+    }
 }
 
 /// Gives back all archives of a hand.

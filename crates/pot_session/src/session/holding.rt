@@ -25,7 +25,7 @@ pub(crate) fn hold<S: Source, K: Sink, R: Room, D: Desk, W: Gate, X: Threads + W
 ) -> Status
     requires home { IsHome (R.meaning room.old) }
     requires workers { 0 < staff.now.workers }
-    ensures holds { Holds staff.now.host.seed.now
+    ensures holds { Holds staff.now.host.seed.now staff.now.careful
         (seen_by (transition S.account source.old source.new) (transition K.account sink.old sink.new)
         (whole_transition D.account desk.old desk.new)
         (room_transition R.A.account R.meaning room.old room.new))

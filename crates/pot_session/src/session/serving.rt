@@ -21,13 +21,13 @@ ghost use Rattle.pot_commands.specs.Taking.{asked_by};
 ghost use Rattle.pot_commands.specs.Holding.{AreOut, Untouched};
 ghost use Rattle.pot_session.specs.Giving.{GivesBack, IsUnlent, IsUnopened};
 ghost use Rattle.pot_session.specs.Opened.{IsOpenedWith};
-ghost use Rattle.pot_session.specs.Serving.{Serves, IsEnd, status_after};
+ghost use Rattle.pot_session.specs.Serving.{Serves, IsEnd, status_after, status_by};
 
 use crate::ending::status::Status;
 use crate::ending::stop::Stop;
 use crate::host::Staff;
 use crate::session::archives::{give_all, take_all};
-use crate::session::closing::{Opened, close_session};
+use crate::session::closing::{Close, Opened, close_session};
 use pot_bytes::NoMemory;
 use pot_commands::{Crew, Ending, Shared, work};
 use pot_image::Image;
@@ -189,7 +189,7 @@ pub(crate) fn serve<K: Sink, R: Room, D: Desk, W: Gate, X: Threads + Wait + Sync
     ensures home { IsHome (R.meaning room.new) }
     ensures untouched { Untouched (flat_map archives_in image.tables.items ++ asked_by steps.now)
         (R.meaning room.old) (R.meaning room.new) }
-    ensures serves { Serves staff.now.host.seed.now (contents image) steps.now
+    ensures serves { Serves staff.now.host.seed.now staff.now.careful (contents image) steps.now
         (room_transition R.A.account R.meaning room.old room.new) (transition K.account sink.old sink.new)
         (whole_transition D.account desk.old desk.new) result }
     ensures which { IsEnd result }
@@ -219,10 +219,21 @@ pub(crate) fn serve<K: Sink, R: Room, D: Desk, W: Gate, X: Threads + Wait + Sync
     };
     let ending = work(&crew, &mut opened.passes, steps, sink, room);
     let closed = close_session(host.alloc, opened, room, desk);
-    status_after(ending, closed)
+    status_by(staff.careful, ending, closed)
 }
 
-/// The status of a session, by how its steps and its close ended.
+/// The status of a session. Where a careful one could not keep the image of its close, that gives
+/// it, and else the first failure of all.
+fn status_by(careful: bool, ending: Ending, closed: Close) -> Status
+    ensures { result ≡ status_by careful ending closed.kept closed.first }
+{
+    match closed.kept {
+        Err(stop) if careful => stop.status(),
+        _ => status_after(ending, closed.first),
+    }
+}
+
+/// The status of a session by the first failure, of its steps or of its close.
 fn status_after(ending: Ending, closed: Result<(), Stop>) -> Status
     ensures { result ≡ status_after ending closed }
 {

@@ -62,8 +62,11 @@ returns-clause-room g c = record {
 pub returns-clause-desk : goal.returns-clause-desk
 returns-clause-desk g c = record {
   later = c.keep_image-kept.ensures.cause.later;
-  rose = λ e. c.keep_image-kept.ensures.cause.rose (desk_failure c.give_hand-given.result c.keep_image-kept.result (sym c.first_failure.ensures ∙ e));
+  rose = c.keep_image-kept.ensures.cause.rose;
 }
+
+pub returns-clause-first : goal.returns-clause-first
+returns-clause-first g c e = desk_failure c.give_hand-given.result c.keep_image-kept.result (sym c.first_failure.ensures ∙ e)
 
 pub returns-clause-own : goal.returns-clause-own
 returns-clause-own g c = record {

@@ -21,7 +21,7 @@ use Rattle.pot_session.proofs.LeftImage.{had_numbers}
 use Rattle.pot_session.proofs.OutLemmas.{out_apart}
 use Rattle.pot_session.proofs.LendLemmas.{first_used, have_come, home_after, image_low, low_after, marks_before, means_after, none_before_asked, none_first, out_after, still_meant}
 use Rattle.pot_session.proofs.WorkLemmas.{are_worked, asked_low}
-use Rattle.pot_session.proofs.ServeLemmas.{but_kept_parts, all_parts, has_filled, same_read, same_records, still_but_kept, still_all, serves_closed, end_of, sink_failed, room_failed, desk_failed}
+use Rattle.pot_session.proofs.ServeLemmas.{but_kept_parts, all_parts, has_filled, same_read, same_records, still_but_kept, still_all, serves_closed, end_by_kept, sink_by_kept, room_by_kept, desk_by_kept}
 use Rattle.pot_session.proofs.session.serving.serve.Goals as goal
 
 pub work-ending-requires-clause-parts : goal.work-ending-requires-clause-parts
@@ -98,41 +98,41 @@ returns-clause-serves g c =
     let lows = low_after (IsTrue g.R.A.Archive.account.tells) _ (asked_by c.args.steps.now) (g.R.Room.meaning c.open_session.new.room) (g.R.Room.meaning c.work-ending.new.room) (known c.in-Ok.opened.passes.groups c.in-Ok.opened.passes.index) (known c.work-ending.new.passes.groups c.work-ending.new.passes.index) c.work-ending.ensures.took.taken c.work-ending.ensures.took.takes c.work-ending.ensures.took.come (flat_map archives_in c.args.image.tables.items) c.in-Ok.ensures.out (image_low (contents c.args.image) c.requires.together) (asked_low c.args.image.rack c.args.steps.now c.requires.worked) in
     let came = came_since (known c.in-Ok.opened.passes.groups c.in-Ok.opened.passes.index) (known c.work-ending.new.passes.groups c.work-ending.new.passes.index) closes.last.group_logs c.in-Ok.ensures.opened.vault.first closes.leaves.logs long in
     let had = had_numbers (known c.in-Ok.opened.passes.groups c.in-Ok.opened.passes.index) (known c.work-ending.new.passes.groups c.work-ending.new.passes.index) numbers (contents c.args.image).tables closes.last.group_logs come closes.sole same came in
-    serves_closed c.args.staff.now.host.seed.now (contents c.args.image) c.args.steps.now
+    serves_closed c.args.staff.now.host.seed.now c.args.staff.now.careful (contents c.args.image) c.args.steps.now
     (room_transition g.R.A.Archive.account g.R.Room.meaning c.args.room.now c.close_session-closed.new.room) _
     (whole_transition g.D.Desk.account c.args.desk.now c.close_session-closed.new.desk) _ _ (known c.in-Ok.opened.passes.groups c.in-Ok.opened.passes.index) (known c.work-ending.new.passes.groups c.work-ending.new.passes.index) c.work-ending.result
-    (g.R.Room.meaning c.work-ending.new.room).failures c.close_session-closed.result _ c.in-Ok.ensures.opened.vault.first c.in-Ok.ensures.opened.vault.are_tables c.in-Ok.ensures.opened.vault.are_records c.in-Ok.ensures.opened.vault.is_rack c.in-Ok.ensures.opened.session c.work-ending.ensures.ends
+    (g.R.Room.meaning c.work-ending.new.room).failures c.close_session-closed.result.kept c.close_session-closed.result.first _ c.in-Ok.ensures.opened.vault.first c.in-Ok.ensures.opened.vault.are_tables c.in-Ok.ensures.opened.vault.are_records c.in-Ok.ensures.opened.vault.is_rack c.in-Ok.ensures.opened.session c.work-ending.ensures.ends
     (subst (λ k. Fails k (g.R.Room.meaning c.work-ending.new.room).failures (c.work-ending.result ≡ ending.RoomFailed)) c.in-Ok.ensures.sound c.work-ending.ensures.own) closes c.requires.kept
     (λ told well n none unbrought. (let still = still_meant (IsTrue g.R.A.Archive.account.tells) _ (asked_by c.args.steps.now) (g.R.Room.meaning c.open_session.new.room) (g.R.Room.meaning c.work-ending.new.room) (known c.in-Ok.opened.passes.groups c.in-Ok.opened.passes.index) (known c.work-ending.new.passes.groups c.work-ending.new.passes.index) c.work-ending.ensures.took.taken c.work-ending.ensures.took.takes c.work-ending.ensures.took.come (flat_map archives_in c.args.image.tables.items) c.in-Ok.ensures.out
     told well closes.sole n none (sym (came_since (known c.in-Ok.opened.passes.groups c.in-Ok.opened.passes.index) (known c.work-ending.new.passes.groups c.work-ending.new.passes.index) closes.last.group_logs c.in-Ok.ensures.opened.vault.first closes.leaves.logs long n) ∙ unbrought) in
     subst (λ m. IsMeant m ((g.R.Room.meaning c.close_session-closed.new.room).means n)) (c.open_session.ensures.untouched n none)
     (subst (λ m. IsMeant ((g.R.Room.meaning c.open_session.new.room).means n) m) (sym (c.close_session-closed.ensures.untouched n still.0)) still.1)))
-    c.status_after.ensures c.requires.together c.requires.space
+    c.status_by.ensures c.requires.together c.requires.space
     (λ n. (let e = had n in let one = out_apart (g.R.Room.meaning c.work-ending.new.room) numbers outs n in omega (arith, e, one))) (λ n lt. had n ∙ lows n lt) c.work-ending.ensures.blinds
 
 pub returns-clause-which : goal.returns-clause-which
-returns-clause-which g c = subst IsEnd (sym c.status_after.ensures) (end_of c.work-ending.result c.close_session-closed.result c.close_session-closed.ensures.which)
+returns-clause-which g c = subst IsEnd (sym c.status_by.ensures) (end_by_kept c.args.staff.now.careful c.work-ending.result c.close_session-closed.result.kept c.close_session-closed.result.first c.close_session-closed.ensures.which_kept c.close_session-closed.ensures.which)
 
 pub returns-clause-sink : goal.returns-clause-sink
 returns-clause-sink g c = record {
   later = c.work-ending.ensures.sink.later;
-  rose = λ e. c.work-ending.ensures.sink.rose (sink_failed c.work-ending.result c.close_session-closed.result c.close_session-closed.ensures.which (sym c.status_after.ensures ∙ e));
+  rose = λ e. c.work-ending.ensures.sink.rose (sink_by_kept c.args.staff.now.careful c.work-ending.result c.close_session-closed.result.kept c.close_session-closed.result.first c.close_session-closed.ensures.which_kept c.close_session-closed.ensures.which (sym c.status_by.ensures ∙ e));
 }
 
 pub returns-clause-room : goal.returns-clause-room
 returns-clause-room g c =
     caused_second _ _ _ c.open_session.ensures.cause (caused_both _ _ _ c.work-ending.ensures.room c.close_session-closed.ensures.room (λ h. h))
-    (λ e. room_failed c.work-ending.result c.close_session-closed.result c.close_session-closed.ensures.which (sym c.status_after.ensures ∙ e))
+    (λ e. room_by_kept c.args.staff.now.careful c.work-ending.result c.close_session-closed.result.kept c.close_session-closed.result.first c.close_session-closed.ensures.which_kept c.close_session-closed.ensures.which (sym c.status_by.ensures ∙ e))
 
 pub returns-clause-own : goal.returns-clause-own
 returns-clause-own g c =
     caused_second _ _ _ c.open_session.ensures.own (caused_both _ _ _ (caused_fails _ _ c.work-ending.ensures.own) c.close_session-closed.ensures.own (λ h. h))
-    (λ e. room_failed c.work-ending.result c.close_session-closed.result c.close_session-closed.ensures.which (sym c.status_after.ensures ∙ e))
+    (λ e. room_by_kept c.args.staff.now.careful c.work-ending.result c.close_session-closed.result.kept c.close_session-closed.result.first c.close_session-closed.ensures.which_kept c.close_session-closed.ensures.which (sym c.status_by.ensures ∙ e))
 
 pub returns-clause-desk : goal.returns-clause-desk
 returns-clause-desk g c = record {
   later = c.close_session-closed.ensures.desk.later;
-  rose = λ e. c.close_session-closed.ensures.desk.rose (desk_failed c.work-ending.result c.close_session-closed.result c.close_session-closed.ensures.which (sym c.status_after.ensures ∙ e));
+  rose = λ e. c.close_session-closed.ensures.desk.rose (desk_by_kept c.args.staff.now.careful c.work-ending.result c.close_session-closed.result.kept c.close_session-closed.result.first c.close_session-closed.ensures.which_kept c.close_session-closed.ensures.which c.close_session-closed.ensures.first (sym c.status_by.ensures ∙ e));
 }
 
 pub returns-in-Err-Failed-clause-untouched : goal.returns-in-Err-Failed-clause-untouched
