@@ -1,8 +1,8 @@
 //! What the words ask for.
 
 use crate::commands::{
-    audit, backup_desk, check, drill, fetch, init, list, migrate, place, recover, renew, repair,
-    replace, status, store,
+    audit, backup_desk, cat, check, completion, drill, fetch, init, list, migrate, picture, place,
+    recover, recover_desk, renew, repair, replace, restore_desk, sheet, status, store, verify,
 };
 use crate::verbs::Verb;
 use crate::words::program;
@@ -67,12 +67,35 @@ fn work<X: Threads + Wait + Sync>(
     let Some((name, words)) = matches.subcommand() else {
         return Err(refuse(rt, 2, "no command was given: see pots help"));
     };
+    enter_vault(rt, matches)?;
     let mut visit = Visit::begin(rt, words.get_flag("json"), words.get_str("without"))?;
+    visit.quiet = words.get_flag("quiet");
     let Some(verb) = Verb::of(name) else {
         return Err(visit.refuse(2, "there is no such command: see pots help"));
     };
     let status = do_it(verb, turns, &mut visit, words)?;
     Ok(visit.status(status))
+}
+
+// Goes to the folder of the vault, where the words or the environment name one.
+fn enter_vault(rt: &HostRuntime, matches: &ArgMatches) -> Result<(), Stop> {
+    match matches.get_str("vault") {
+        Some(folder) => enter(rt, folder),
+        None => match env::var(rt, "POTS_VAULT") {
+            Ok(folder) if !folder.is_empty() => enter(rt, folder.as_str()),
+            _ => Ok(()),
+        },
+    }
+}
+
+fn enter(rt: &HostRuntime, folder: &str) -> Result<(), Stop> {
+    if env::set_current_dir(rt, folder).is_ok() {
+        return Ok(());
+    }
+    let line = format!(in rt.alloc();
+        "the folder {folder} could not be entered: see -C and the variable POTS_VAULT, and that its disk is mounted"
+    )?;
+    Err(refuse(rt, 7, line.as_str()))
 }
 
 fn do_it<X: Threads + Wait + Sync>(
@@ -85,7 +108,7 @@ fn do_it<X: Threads + Wait + Sync>(
         Verb::Init => init::work(turns, visit, words),
         Verb::Store => store::work(turns, visit, words),
         Verb::Fetch => fetch::work(turns, visit, words),
-        Verb::List => list::work(visit),
+        Verb::List => list::work(turns, visit, words),
         Verb::Status => status::work(visit),
         Verb::Check => check::work(turns, visit, words),
         Verb::Repair => repair::work(turns, visit, words),
@@ -95,7 +118,14 @@ fn do_it<X: Threads + Wait + Sync>(
         Verb::Place => place::work(visit, words),
         Verb::BackupDesk => backup_desk::work(visit, words),
         Verb::Recover => recover::work(turns, visit, words),
+        Verb::RecoverDesk => recover_desk::work(visit, words),
         Verb::Audit => audit::work(turns, visit, words),
         Verb::Drill => drill::work(turns, visit, words),
+        Verb::Cat => cat::work(turns, visit, words),
+        Verb::Verify => verify::work(visit, words),
+        Verb::RestoreDesk => restore_desk::work(visit, words),
+        Verb::Sheet => sheet::work(visit, words),
+        Verb::Picture => picture::work(visit, words),
+        Verb::Completion => completion::work(visit, words),
     }
 }

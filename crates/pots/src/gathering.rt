@@ -27,6 +27,8 @@ struct PartList {
 pub struct Gathered {
     commands: Vec<Command>,
     names: Vec<Name>,
+    /// Those of the names that are of lists beside files of one part. Of these no word is said.
+    quiet: Vec<Name>,
     load: Load,
     /// The lists of files of which parts are in the session. They wait for the next one.
     lists: Vec<PartList>,
@@ -41,6 +43,7 @@ impl Gathered {
         Gathered {
             commands: Vec::new(alloc),
             names: Vec::new(alloc),
+            quiet: Vec::new(alloc),
             load: Load::nothing(),
             lists: Vec::new(alloc),
             lacking: None,
@@ -67,6 +70,22 @@ impl Gathered {
         }
         let file = Bytes::from_vec(Vec::from_slice(visit.alloc(), file)?);
         self.push(name, file)?;
+        Ok(true)
+    }
+
+    /// Adds the list of a file of one part, which is told where it is refused alone. Answers whether
+    /// nothing was refused.
+    pub fn add_quiet<X: Threads + Wait + Sync>(
+        &mut self,
+        turns: &X,
+        visit: &mut Visit,
+        name: Name,
+        text: &[u8],
+    ) -> Result<bool, Stop> {
+        if !self.add(turns, visit, name, text)? {
+            return Ok(false);
+        }
+        self.quiet.push(name)?;
         Ok(true)
     }
 
@@ -122,10 +141,11 @@ impl Gathered {
         let alloc = visit.alloc();
         let commands = mem::replace(&mut self.commands, Vec::new(alloc));
         let names = mem::replace(&mut self.names, Vec::new(alloc));
+        let quiet = mem::replace(&mut self.quiet, Vec::new(alloc));
         let load = mem::replace(&mut self.load, Load::nothing());
         let replies = hold_together(turns, visit, commands)?;
         self.progress.add(&visit.rt, load.bytes());
-        let refused = tell_stored(visit, &names, &replies)?;
+        let refused = tell_stored(visit, &names, &quiet, &replies)?;
         self.move_lists(alloc, &refused)?;
         Ok(refused.is_empty())
     }
@@ -154,12 +174,17 @@ fn is_part_of(name: &Name, file: &Name) -> bool {
 
 // Tells of each file what came of it, of parts alone by the list of parts. Answers which of them
 // were not stored.
-fn tell_stored(visit: &Visit, names: &[Name], replies: &[Reply]) -> Result<Vec<Name>, Stop> {
+fn tell_stored(
+    visit: &Visit,
+    names: &[Name],
+    quiet: &[Name],
+    replies: &[Reply],
+) -> Result<Vec<Name>, Stop> {
     let mut refused = Vec::new(visit.alloc());
     let mut replies = replies.iter();
     for name in names {
         let stored = match replies.next() {
-            Some(reply) => tell_one(visit, name, reply)?,
+            Some(reply) => tell_one(visit, name, quiet.contains(name), reply)?,
             None => false,
         };
         if !stored {
@@ -169,9 +194,12 @@ fn tell_stored(visit: &Visit, names: &[Name], replies: &[Reply]) -> Result<Vec<N
     Ok(refused)
 }
 
-// Tells what came of a file, and answers whether it is stored.
-fn tell_one(visit: &Visit, name: &Name, reply: &Reply) -> Result<bool, Stop> {
+// Tells what came of a file, of which no word may be said where it is stored. Answers whether it is.
+fn tell_one(visit: &Visit, name: &Name, is_quiet: bool, reply: &Reply) -> Result<bool, Stop> {
     let stored = matches!(reply, Reply::Stored { .. });
+    if stored && is_quiet {
+        return Ok(true);
+    }
     if stored && !visit.json {
         tell_name(visit, name)?;
     } else if visit.tell(reply)? {

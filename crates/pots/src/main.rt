@@ -10,9 +10,12 @@ mod commands;
 mod gathering;
 mod moving;
 mod session;
+mod short;
+mod snapshots;
 mod splitting;
 mod stopped;
 mod verbs;
+mod whole;
 mod words;
 
 use crate::answering::answer;

@@ -8,6 +8,7 @@ use pot_image::Image;
 use pot_report::holdings;
 use pot_script::{Command, Reply};
 use pot_session::run;
+use pots_shares::lay_shares;
 use pots_vault::{MOST_TOGETHER, Stop, Visit, image, tell_losses};
 use std::alloc::{AllocError, Global};
 use std::sync::Wait;
@@ -48,9 +49,12 @@ pub fn hold_to_tell<X: Threads + Wait + Sync>(
     Ok(replies)
 }
 
-/// What is done after each session that closed. Answers the desk's image.
+/// What is done after each session that closed: shares of its desk are laid beside the archives.
+/// Answers the desk's image.
 pub fn closed(visit: &mut Visit) -> Result<Image, Stop> {
-    image(visit)
+    let mut image = image(visit)?;
+    lay_shares(visit, &mut image)?;
+    Ok(image)
 }
 
 /// Works these commands in a session, and answers their replies. Behind them the files are listed,

@@ -16,8 +16,15 @@ pub enum Verb {
     Place,
     BackupDesk,
     Recover,
+    RecoverDesk,
     Audit,
     Drill,
+    Cat,
+    Completion,
+    Picture,
+    RestoreDesk,
+    Sheet,
+    Verify,
 }
 
 impl Verb {
@@ -37,8 +44,15 @@ impl Verb {
             "place" => Some(Verb::Place),
             "backup-desk" => Some(Verb::BackupDesk),
             "recover" => Some(Verb::Recover),
+            "recover-desk" => Some(Verb::RecoverDesk),
             "audit" => Some(Verb::Audit),
             "drill" => Some(Verb::Drill),
+            "cat" => Some(Verb::Cat),
+            "verify" => Some(Verb::Verify),
+            "restore-desk" => Some(Verb::RestoreDesk),
+            "sheet" => Some(Verb::Sheet),
+            "picture" => Some(Verb::Picture),
+            "completion" => Some(Verb::Completion),
             _ => None,
         }
     }

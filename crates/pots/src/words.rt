@@ -1,8 +1,8 @@
 //! The words of the command line.
 
 use crate::commands::{
-    audit, backup_desk, check, drill, fetch, init, list, migrate, place, recover, renew, repair,
-    replace, status, store,
+    audit, backup_desk, cat, check, completion, drill, fetch, init, list, migrate, picture, place,
+    recover, recover_desk, renew, repair, replace, restore_desk, sheet, status, store, verify,
 };
 use clap::{Arg, ArgAction, Command};
 use std::alloc::{AllocError, Global};
@@ -17,10 +17,12 @@ pub fn program<'a>(alloc: Global) -> Result<Command<'a>, AllocError> {
         .about("Keeps files in archives of which no few tell anything, without a key")
         .after_help("pots works on the archive in the folder in which it is started. See pots(1).")
         .arg_required_else_help(true)
+        .arg(vault(alloc))?
         .subcommand(init::words(alloc)?)?
         .subcommand(store::words(alloc)?)?
         .subcommand(fetch::words(alloc)?)?
         .subcommand(list::words(alloc)?)?
+        .subcommand(cat::words(alloc)?)?
         .subcommand(status::words(alloc)?)?;
     add_tending(alloc, program)
 }
@@ -36,8 +38,23 @@ fn add_tending<'a>(alloc: Global, program: Command<'a>) -> Result<Command<'a>, A
         .subcommand(place::words(alloc)?)?
         .subcommand(backup_desk::words(alloc)?)?
         .subcommand(recover::words(alloc)?)?
+        .subcommand(recover_desk::words(alloc)?)?
         .subcommand(audit::words(alloc)?)?
-        .subcommand(drill::words(alloc)?)
+        .subcommand(drill::words(alloc)?)?
+        .subcommand(verify::words(alloc)?)?
+        .subcommand(restore_desk::words(alloc)?)?
+        .subcommand(sheet::words(alloc)?)?
+        .subcommand(picture::words(alloc)?)?
+        .subcommand(completion::words(alloc)?)
+}
+
+// The folder of the vault.
+fn vault<'a>(alloc: Global) -> Arg<'a> {
+    Arg::new(alloc, "vault")
+        .short('C')
+        .action(ArgAction::Set)
+        .value_name("FOLDER")
+        .help("Work as if it was started in this folder; the variable POTS_VAULT names one too")
 }
 
 /// A switch.
@@ -80,11 +97,14 @@ pub fn command<'a>(
     name: &'a str,
     about: &'a str,
 ) -> Result<Command<'a>, AllocError> {
-    Command::new(alloc, name).about(about).arg(switch(
-        alloc,
-        "json",
-        "Tell what comes of it as lines of JSON",
-    ))
+    Command::new(alloc, name)
+        .about(about)
+        .arg(switch(alloc, "json", "Tell what comes of it as lines of JSON"))?
+        .arg(switch(
+            alloc,
+            "quiet",
+            "Print nothing on standard output; what fails is still told",
+        ))
 }
 
 /// A command that holds sessions.

@@ -1,8 +1,9 @@
-//! Files that were found without the desk are written: those in parts under the names of their
-//! lists, and others under their ids.
+//! Files that were found without the desk are written: those that have a list under the names of
+//! their lists, and others under their ids.
 //!
 //! Nobody vouches for what was found: who could write to an archive could put a file or a list
-//! there. So a list gives no more than was found, and two files of one name are both written.
+//! there. So a list gives no more than was found, and of two lists with one name both files are
+//! written, and neither of them under just that name.
 
 use pot_bytes::{Digest, digest_of};
 use pot_client::PART_SIZE;
@@ -26,6 +27,9 @@ impl Piece {
         }
     }
 }
+
+/// How many numbers behind a name are tried.
+const TRIES: u32 = 10_000;
 
 /// Why the parts of a list are not joined. Parts count from 1.
 #[derive(Clone, Copy)]
@@ -67,8 +71,10 @@ pub fn write_all(visit: &Visit, folder: &str, found: Vec<Found>) -> Result<bool,
         again: all_bytes(&pieces),
     };
     let mut good = true;
-    for (own, list) in lists_in(visit.alloc(), &pieces)?.iter() {
-        if !writing.join(list, own, &mut pieces)? {
+    let lists = lists_in(visit.alloc(), &pieces)?;
+    for (own, list) in lists.iter() {
+        let is_doubted = is_doubted(visit, &lists, own, list);
+        if !writing.join((list, own), is_doubted, &mut pieces)? {
             good = false;
         }
     }
@@ -78,6 +84,26 @@ pub fn write_all(visit: &Visit, folder: &str, found: Vec<Found>) -> Result<bool,
         }
     }
     Ok(good)
+}
+
+// Whether several lists have the name of this one, which is told at the first of them.
+fn is_doubted(visit: &Visit, lists: &[(Digest, Manifest)], own: &Digest, list: &Manifest) -> bool {
+    let mut count = 0u32;
+    let mut is_first = false;
+    for (other, named) in lists.iter() {
+        if named.name == list.name {
+            is_first = is_first || count == 0 && other == own;
+            count = count.saturating_add(1);
+        }
+    }
+    if is_first && count > 1 {
+        let rt = &visit.rt;
+        let name = name_text(&list.name);
+        let _ = eprintln!(rt;
+            "pots: {count} lists are of a file {name}, and who could write to an archive may have forged some: no file gets just that name, and each gets a number behind it"
+        );
+    }
+    count > 1
 }
 
 // How many bytes were found.
@@ -196,10 +222,13 @@ fn joined(
 }
 
 // Whether the parts have the lengths of a file's that is so long: all but the last are as long as a
-// part may be. A file of one part is stored without a list.
+// part may be, and only a file of none has a part of none.
 fn fit(list: &Manifest, pieces: &[Piece], places: &[usize]) -> bool {
-    if list.length <= PART_SIZE as u64 {
-        return false;
+    if list.length == 0 {
+        return match places {
+            [place] => bytes_at(pieces, *place).is_some_and(|bytes| bytes.is_empty()),
+            _ => false,
+        };
     }
     let mut left = list.length;
     for place in places.iter() {
@@ -248,7 +277,12 @@ fn use_parts(list: &Manifest, own: &Digest, pieces: &mut [Piece]) {
 impl<'a> Writing<'a> {
     // Joins the parts of a file, where all are there, and writes it under its name. Answers whether
     // it is written and nothing is in doubt.
-    fn join(&mut self, list: &Manifest, own: &Digest, pieces: &mut [Piece]) -> Result<bool, Stop> {
+    fn join(
+        &mut self,
+        (list, own): (&Manifest, &Digest),
+        is_doubted: bool,
+        pieces: &mut [Piece],
+    ) -> Result<bool, Stop> {
         let alloc = self.visit.alloc();
         let places = match parts_of(alloc, list, pieces)? {
             Ok(places) => places,
@@ -263,7 +297,7 @@ impl<'a> Writing<'a> {
         };
         self.again = self.again.saturating_sub(used);
         use_parts(list, own, pieces);
-        self.write_under(name_text(&list.name), &whole, &list.digest)
+        self.write_under(name_text(&list.name), is_doubted, &whole, &list.digest)
     }
 
     fn tell_unjoined(&self, list: &Manifest, why: Unjoined) -> Result<bool, Stop> {
@@ -289,7 +323,7 @@ impl<'a> Writing<'a> {
     fn write_piece(&mut self, piece: &Piece) -> Result<bool, Stop> {
         let id = piece.found.id.as_str();
         match &piece.found.bytes {
-            Some(bytes) => self.write_under(id, bytes, &piece.digest),
+            Some(bytes) => self.write_under(id, false, bytes, &piece.digest),
             None => {
                 let rt = &self.visit.rt;
                 let _ = eprintln!(rt;
@@ -300,36 +334,64 @@ impl<'a> Writing<'a> {
         }
     }
 
-    // Writes a file under its name, or where another one has that, under the name and a number.
-    // The same file once more is not written. Answers whether it is there and nothing is in doubt.
-    fn write_under(&mut self, name: &str, bytes: &[u8], digest: &Digest) -> Result<bool, Stop> {
-        let alloc = self.visit.alloc();
-        let folder = self.folder;
-        let mut path = format!(in alloc; "{folder}/{name}")?;
-        let mut others = 0u32;
-        for other in self.written.iter() {
-            if other.name.as_str() != name {
-                continue;
-            }
-            if other.digest == *digest {
-                return Ok(true);
-            }
-            others = others.saturating_add(1);
+    // Writes a file under its name, or where another one has that, or the name is doubted, under
+    // the name and a number. The same file once more is not written. Answers whether it is there
+    // and nothing is in doubt.
+    fn write_under(
+        &mut self,
+        name: &str,
+        is_doubted: bool,
+        bytes: &[u8],
+        digest: &Digest,
+    ) -> Result<bool, Stop> {
+        if self.has(name, digest) {
+            return Ok(!is_doubted);
         }
-        if others > 0 {
-            let number = others.saturating_add(1);
-            path = format!(in alloc; "{folder}/{name}.{number}")?;
-        }
+        let is_alone = !is_doubted && !self.written.iter().any(|other| other.name.as_str() == name);
+        let first = if is_alone {
+            0
+        } else if is_doubted {
+            1
+        } else {
+            2
+        };
+        let path = self.free_path(name, first)?;
         if !self.put(path.as_str(), bytes)? {
             return Ok(false);
         }
         self.tell_others(name, path.as_str(), digest)?;
         self.written.push(Written {
-            name: String::from_str(alloc, name)?,
+            name: String::from_str(self.visit.alloc(), name)?,
             path,
             digest: *digest,
         })?;
-        Ok(others == 0)
+        Ok(is_alone)
+    }
+
+    // Whether this file was written under this name, or under it and a number.
+    fn has(&self, name: &str, digest: &Digest) -> bool {
+        self.written.iter().any(|other| other.name.as_str() == name && other.digest == *digest)
+    }
+
+    // A path for a file of this name where none was written, with no number less than this one
+    // behind it; 0 stands for none.
+    fn free_path(&self, name: &str, first: u32) -> Result<String, Stop> {
+        let alloc = self.visit.alloc();
+        let folder = self.folder;
+        let mut path = format!(in alloc; "{folder}/{name}")?;
+        for number in first..TRIES {
+            if number > 0 {
+                path = format!(in alloc; "{folder}/{name}.{number}")?;
+            }
+            if !self
+                .written
+                .iter()
+                .any(|other| other.path.as_str() == path.as_str())
+            {
+                return Ok(path);
+            }
+        }
+        Ok(path)
     }
 
     fn put(&self, path: &str, bytes: &[u8]) -> Result<bool, Stop> {

@@ -18,6 +18,7 @@ mod joined;
 mod kept_images;
 mod known;
 mod loads;
+mod lying;
 mod new_file;
 mod numbers;
 mod progress;
@@ -34,8 +35,12 @@ pub use coming::look_for_empty;
 pub use desk::{image, image_bytes};
 pub use goal::{Goal, make_folder};
 pub use incoming::Incoming;
-pub use known::Known;
+pub use kept_images::keep_image;
+pub use known::{Known, is_stored};
 pub use loads::{Load, MOST_TOGETHER, Task, cut};
+pub use lying::{
+    Lying, MOST_PLACES, are_shares_about, folders_about, lying_of, own_folder, share_path,
+};
 pub use new_file::{open_to_read, put_file, sync_folder_of};
 pub use numbers::{MOST_ARCHIVES, read_number};
 pub use progress::Progress;

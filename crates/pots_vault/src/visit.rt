@@ -18,6 +18,8 @@ pub struct Visit {
     pub desk: DeskFile,
     /// Whether what comes of it is told as lines of JSON.
     pub json: bool,
+    /// Whether nothing is printed on standard output.
+    pub quiet: bool,
     /// The archives that a session is held without.
     pub without: Vec<u32>,
     /// Whether the desk's image was kept already, as it was before the first session.
@@ -37,6 +39,7 @@ impl Visit {
             rt: *rt,
             desk: DeskFile::new(rt),
             json,
+            quiet: false,
             without,
             kept: false,
             unread: Cell::new(false),
@@ -55,12 +58,18 @@ impl Visit {
 
     /// Prints a line. Where nobody reads standard output any more the command goes on to its end.
     pub fn println<D: Display + Drop>(&self, line: D) -> Result<(), Stop> {
+        if self.quiet {
+            return Ok(());
+        }
         self.printed(self.rt.println(line))
     }
 
     /// Prints a text as it is. Where nobody reads standard output any more the command goes on to
     /// its end.
     pub fn print<D: Display + Drop>(&self, text: D) -> Result<(), Stop> {
+        if self.quiet {
+            return Ok(());
+        }
         self.printed(self.rt.print(text))
     }
 

@@ -6,6 +6,7 @@ use crate::words::{groups, session_command};
 use clap::ArgMatches;
 use pot_report::{Holding, holdings};
 use pot_script::Reply;
+use pots_looks::{Habit, remember};
 use pots_vault::{Stop, Visit, image, tell_ailing};
 use std::alloc::{AllocError, Global};
 use std::sync::Wait;
@@ -34,6 +35,7 @@ pub fn work<X: Threads + Wait + Sync>(
         tell_seen(visit, &all, *group)?;
     }
     let is_ailing = tell_ailing(visit, &image)?;
+    remember(visit, Habit::Check)?;
     Ok(if is_ailing { 1 } else { 0 })
 }
 

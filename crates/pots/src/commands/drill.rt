@@ -4,6 +4,7 @@ use crate::session::{call, ended, words_of};
 use crate::words::{command, operand, option};
 use clap::ArgMatches;
 use pot_client::PART_SIZE;
+use pots_looks::{Habit, remember};
 use pots_vault::{Stop, Visit, image, read_number};
 use serde_json::json;
 use std::alloc::{AllocError, Global};
@@ -46,6 +47,7 @@ pub fn work<X: Threads + Wait + Sync>(
         return Err(ended(visit, &ran));
     }
     tell_drill(visit, from_utf8(&ran.written).unwrap_or(""))?;
+    remember(visit, Habit::Drill)?;
     Ok(ran.status)
 }
 

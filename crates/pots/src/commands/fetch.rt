@@ -1,12 +1,13 @@
 //! `fetch`: files that are fetched, and written whole or not at all.
 
+use crate::commands::fetch_folder;
 use crate::session::hold_together;
 use crate::words::{option, session_command, switch};
 use clap::{Arg, ArgAction, ArgMatches};
 use pot_bytes::Name;
 use pot_report::{Kept, kept_files, name_text};
 use pot_script::Command;
-use pots_vault::{Goal, Incoming, Progress, Stop, Task, Visit, cut, image};
+use pots_vault::{Goal, Incoming, Progress, Stop, Task, Visit, cut, image, is_stored};
 use std::alloc::{AllocError, Global};
 use std::sync::Wait;
 use std::thread::Threads;
@@ -32,7 +33,14 @@ pub fn words<'a>(alloc: Global) -> Result<clap::Command<'a>, AllocError> {
             "FOLDER",
             "Write the files into this folder, which is made where it is missing",
         ))?
-        .arg(switch(alloc, "force", "Write over files that are there"))
+        .arg(switch(alloc, "force", "Write over files that are there"))?
+        .arg(option(
+            alloc,
+            "at",
+            "DATE",
+            "Of a snapshot the newest of this date or before, as 2026-01-31",
+        ))?
+        .arg(option(alloc, "path", "PATH", "Of a snapshot this path alone"))
 }
 
 /// A file that is to be fetched.
@@ -48,6 +56,9 @@ pub fn work<X: Threads + Wait + Sync>(
     visit: &mut Visit,
     words: &ArgMatches,
 ) -> Result<u8, Stop> {
+    if let Some(stored) = fetch_folder::snapshot_in(visit, words)? {
+        return fetch_folder::work(turns, visit, words, &stored);
+    }
     let folder = words.get_str("to").unwrap_or(".");
     let goal = Goal::of(visit, folder, words.get_flag("force"))?;
     let wanted = asked(visit, words)?;
@@ -111,7 +122,7 @@ fn incoming(visit: &Visit, goal: &Goal, wanted: &[Wanted]) -> Result<Vec<Incomin
         if !goal.may_write(visit, &file.name)? {
             continue;
         }
-        if file.kept.is_whole() {
+        if is_stored(&file.kept) {
             files.push(Incoming::new(file.name, file.kept))?;
         } else {
             tell_incomplete(visit, &file.name);

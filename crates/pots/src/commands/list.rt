@@ -1,36 +1,149 @@
-//! `list`: the files that are stored, by the desk alone.
+//! `list`: the files and snapshots that are stored, by the desk alone; or what one snapshot has.
 
-use crate::words::command;
+use crate::snapshots::{asked_snapshot, entries_of};
+use crate::words::{option, session_command, switch};
+use clap::{Arg, ArgAction, ArgMatches};
 use pot_bytes::Name;
-use pot_report::{Kept, Size, kept_files, name_text};
-use pots_vault::{Stop, Visit, image};
+use pot_report::{Kept, Size, digest_text, kept_files, name_text};
+use pot_tree::{Content, Entry};
+use pots_folders::{Snapshot, is_pack};
+use pots_vault::{Stop, Visit, image, is_stored};
 use serde_json::json;
 use std::alloc::{AllocError, Global};
+use std::str::from_utf8;
+use std::sync::Wait;
+use std::thread::Threads;
 
 /// Its words.
 pub fn words<'a>(alloc: Global) -> Result<clap::Command<'a>, AllocError> {
-    command(
+    let command = session_command(
         alloc,
         "list",
-        "List the files that are stored, with their sizes; dates are not kept",
-    )
+        "List the files and snapshots that are stored, or what one snapshot has",
+    )?;
+    command
+        .arg(
+            Arg::new(alloc, "NAME")
+                .action(ArgAction::Set)
+                .help("The name of a snapshot"),
+        )?
+        .arg(option(
+            alloc,
+            "at",
+            "DATE",
+            "Of the newest snapshot of this date or before, as 2026-01-31",
+        ))?
+        .arg(switch(alloc, "all", "List the packs and lists of snapshots too"))
 }
 
-/// Lists the files that are stored.
-pub fn work(visit: &mut Visit) -> Result<u8, Stop> {
+/// Lists what is stored, or what one snapshot has.
+pub fn work<X: Threads + Wait + Sync>(
+    turns: &X,
+    visit: &mut Visit,
+    words: &ArgMatches,
+) -> Result<u8, Stop> {
+    match words.get_str("NAME") {
+        Some(name) => list_snapshot(turns, visit, words, name),
+        None if words.get_str("at").is_some() => {
+            Err(visit.refuse(2, "--at is of one snapshot: give its name"))
+        }
+        None => list_files(visit, words.get_flag("all")),
+    }
+}
+
+// Lists the files that are stored.
+fn list_files(visit: &mut Visit, all: bool) -> Result<u8, Stop> {
     let image = image(visit)?;
     let rt = &visit.rt;
     if image.records.is_empty() {
         let _ = eprintln!(rt; "pots: nothing is stored yet");
     }
     for (name, kept) in kept_files(visit.alloc(), &image)?.iter() {
-        if visit.json {
-            tell_file_json(visit, name, kept)?;
+        if all {
+            tell_stored(visit, name, kept)?;
+        } else if is_pack(name) {
+            continue;
+        } else if let Some(snapshot) = Snapshot::read(*name) {
+            tell_snapshot(visit, &snapshot, kept)?;
         } else {
-            tell_file(visit, name, kept)?;
+            tell_stored(visit, name, kept)?;
         }
     }
     Ok(0)
+}
+
+fn tell_stored(visit: &Visit, name: &Name, kept: &Kept) -> Result<(), Stop> {
+    if visit.json {
+        tell_file_json(visit, name, kept)
+    } else {
+        tell_file(visit, name, kept)
+    }
+}
+
+// Tells a snapshot by its name and date. The date goes into --at as it stands.
+fn tell_snapshot(visit: &Visit, snapshot: &Snapshot, kept: &Kept) -> Result<(), Stop> {
+    let name = snapshot.name();
+    let stamp = snapshot.stamp();
+    let whole = kept.is_whole();
+    if visit.json {
+        let line = json!(in visit.alloc(); {"snapshot": name, "at": stamp, "whole": whole})?;
+        let line = line.to_string(visit.alloc())?;
+        return println!(visit; "{line}");
+    }
+    let end = if whole { "" } else { "  not stored to its end" };
+    println!(visit; "  snapshot  {name}  of {stamp}{end}")
+}
+
+// Lists what a snapshot has.
+fn list_snapshot<X: Threads + Wait + Sync>(
+    turns: &X,
+    visit: &mut Visit,
+    words: &ArgMatches,
+    name: &str,
+) -> Result<u8, Stop> {
+    let image = image(visit)?;
+    let stored = asked_snapshot(visit, &image, name, words.get_str("at"))?;
+    for entry in entries_of(turns, visit, &stored)? {
+        tell_entry(visit, &entry)?;
+    }
+    Ok(0)
+}
+
+fn tell_entry(visit: &Visit, entry: &Entry) -> Result<(), Stop> {
+    let path = from_utf8(entry.path.as_slice()).unwrap_or("a path that is no UTF-8");
+    match &entry.content {
+        Content::Folder => tell_plain(visit, "folder", path, ""),
+        Content::Link { target } => {
+            let target = from_utf8(target.as_slice()).unwrap_or("");
+            tell_plain(visit, "link", path, target)
+        }
+        Content::File { size, digest, .. } if visit.json => {
+            let digest = digest_text(visit.alloc(), digest)?;
+            let digest = digest.as_str();
+            let line = json!(in visit.alloc(); {"path": path, "length": *size, "sha256": digest})?;
+            let line = line.to_string(visit.alloc())?;
+            println!(visit; "{line}")
+        }
+        Content::File { size, .. } => {
+            let size = Size(*size);
+            let size = format!(in visit.alloc(); "{size}")?;
+            let size = size.as_str();
+            println!(visit; "{size:>10}  {path}")
+        }
+    }
+}
+
+// Tells a folder or a link.
+fn tell_plain(visit: &Visit, kind: &str, path: &str, target: &str) -> Result<(), Stop> {
+    if visit.json {
+        let line = json!(in visit.alloc(); {"path": path, "kind": kind, "target": target})?;
+        let line = line.to_string(visit.alloc())?;
+        println!(visit; "{line}")
+    } else if target.is_empty() {
+        println!(visit; "{kind:>10}  {path}")
+    } else {
+        println!(visit; "{kind:>10}  {path}  to {target}")
+    }
 }
 
 fn tell_file(visit: &Visit, name: &Name, kept: &Kept) -> Result<(), Stop> {
@@ -40,7 +153,7 @@ fn tell_file(visit: &Visit, name: &Name, kept: &Kept) -> Result<(), Stop> {
     let size = size.as_str();
     if kept.direct.is_some() {
         println!(visit; "{size:>10}  {text}")?;
-    } else if kept.complete {
+    } else if is_stored(kept) {
         let parts = kept.parts;
         println!(visit; "{size:>10}  {text}  in {parts} parts")?;
     } else {
@@ -51,7 +164,7 @@ fn tell_file(visit: &Visit, name: &Name, kept: &Kept) -> Result<(), Stop> {
 
 fn tell_file_json(visit: &Visit, name: &Name, kept: &Kept) -> Result<(), Stop> {
     let length = kept.direct.unwrap_or(kept.length);
-    let whole = kept.is_whole();
+    let whole = is_stored(kept);
     let line =
         json!(in visit.alloc(); {"name": name_text(name), "length": length, "parts": kept.parts, "whole": whole})?;
     let line = line.to_string(visit.alloc())?;

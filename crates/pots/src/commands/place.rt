@@ -3,6 +3,7 @@
 use crate::commands::status::tell_archives;
 use crate::words::command;
 use clap::{Arg, ArgAction, ArgMatches};
+use pots_shares::lay_shares;
 use pots_vault::{
     Stop, Visit, archive_name, image, listed_archives, look_for_file, put_file, sync_folder_of,
 };
@@ -31,7 +32,7 @@ pub fn words<'a>(alloc: Global) -> Result<clap::Command<'a>, AllocError> {
 
 /// Tells where archives lie, or copies some of them to a folder and leaves links.
 pub fn work(visit: &mut Visit, words: &ArgMatches) -> Result<u8, Stop> {
-    let image = image(visit)?;
+    let mut image = image(visit)?;
     let (Some(archives), Some(folder)) = (words.get_str("ARCHIVES"), words.get_str("FOLDER")) else {
         tell_archives(visit, &image)?;
         return Ok(0);
@@ -46,6 +47,7 @@ pub fn work(visit: &mut Visit, words: &ArgMatches) -> Result<u8, Stop> {
     for number in numbers.iter() {
         place_one(visit, *number, folder)?;
     }
+    lay_shares(visit, &mut image)?;
     Ok(0)
 }
 

@@ -2,13 +2,13 @@
 
 use crate::session::hold_together;
 use crate::splitting::geometry_of;
-use crate::words::{operands, option, session_command};
-use clap::ArgMatches;
+use crate::words::{option, session_command, switch};
+use clap::{Arg, ArgAction, ArgMatches};
 use pot_bytes::{Geometry, Name};
-use pot_client::part_name;
+use pot_client::{part_name, read_part_name};
 use pot_image::Image;
-use pot_report::{Kept, kept_files};
-use pot_script::Command;
+use pot_report::{Kept, Room, Size, kept_files};
+use pot_script::{Command, Reply};
 use pots_vault::{Stop, Visit, image};
 use std::alloc::{AllocError, Global};
 use std::sync::Wait;
@@ -20,8 +20,27 @@ const MOST_RENEWED: usize = 16;
 /// Its words.
 pub fn words<'a>(alloc: Global) -> Result<clap::Command<'a>, AllocError> {
     let about = "Split files anew; their older blocks stay";
-    session_command(alloc, "renew", about)?
-        .arg(operands(alloc, "NAME", "The names of the files"))?
+    let renew = session_command(alloc, "renew", about)?
+        .arg(
+            Arg::new(alloc, "NAME")
+                .action(ArgAction::Append)
+                .num_args(0..)
+                .help("The names of the files"),
+        )?
+        .arg(switch(
+            alloc,
+            "all",
+            "Split every file anew, where there is room for all",
+        ))?;
+    add_numbers(alloc, renew)
+}
+
+// The numbers of a split, each in place of the archive's own.
+fn add_numbers<'a>(
+    alloc: Global,
+    renew: clap::Command<'a>,
+) -> Result<clap::Command<'a>, AllocError> {
+    renew
         .arg(option(alloc, "fragments", "K", "Fragments of a piece"))?
         .arg(option(alloc, "need", "M", "Shards that give a fragment"))?
         .arg(option(alloc, "shards", "N", "Shards of a fragment"))?
@@ -34,7 +53,7 @@ pub fn work<X: Threads + Wait + Sync>(
     visit: &mut Visit,
     words: &ArgMatches,
 ) -> Result<u8, Stop> {
-    let image = image(visit)?;
+    let mut image = image(visit)?;
     let geometry = geometry_of(visit, words, image.rack.geometry)?;
     if !geometry.fits(image.rack.groups) {
         return Err(visit.refuse(
@@ -42,7 +61,12 @@ pub fn work<X: Threads + Wait + Sync>(
             "no file is split so: see pots help renew, and the limits in potshards(1)",
         ));
     }
-    let names = names_of(visit, words, &image)?;
+    let names = if words.get_flag("all") {
+        all_names(visit, &mut image, geometry)?
+    } else {
+        names_of(visit, words, &image)?
+    };
+    drop(image);
     let mut status = 0;
     for names in names.chunks(MOST_RENEWED) {
         if renew_some(turns, visit, names, geometry)? != 0 {
@@ -66,14 +90,60 @@ fn renew_some<X: Threads + Wait + Sync>(
         })?;
     }
     let replies = hold_together(turns, visit, commands)?;
-    visit.tell_all(&replies)
+    tell_renewed(visit, &replies)
+}
+
+// Tells what came of each, but of lists that were split anew nothing. Answers the status.
+fn tell_renewed(visit: &Visit, replies: &[Reply]) -> Result<u8, Stop> {
+    let mut status = 0;
+    for reply in replies {
+        if !is_of_list(reply) && visit.tell(reply)? {
+            status = 1;
+        }
+    }
+    Ok(status)
+}
+
+// Whether a list was split anew.
+fn is_of_list(reply: &Reply) -> bool {
+    match reply {
+        Reply::Renewed { name, .. } => {
+            read_part_name(name).is_some_and(|(_, number)| number == 0)
+        }
+        _ => false,
+    }
+}
+
+// The names of all files and their parts, once there is room to split each anew.
+fn all_names(visit: &Visit, image: &mut Image, geometry: Geometry) -> Result<Vec<Name>, Stop> {
+    // A file takes the room that it has where files are split so.
+    image.rack.geometry = geometry;
+    let mut room = Room::left(visit.alloc(), image)?;
+    let left = Size(room.bytes());
+    let mut names = Vec::new(visit.alloc());
+    let mut fits = true;
+    for record in image.records.iter() {
+        fits = room.take(record.length) && fits;
+        names.push(record.name)?;
+    }
+    if fits {
+        return Ok(names);
+    }
+    let line = format!(in visit.alloc();
+        "there is no room to split all files anew, and none was: {left} is left; split some anew by their names, or store all in a second archive in another folder"
+    )?;
+    Err(visit.refuse(1, line.as_str()))
 }
 
 // The names that the words give, and of a file in parts those of all its parts.
 fn names_of(visit: &Visit, words: &ArgMatches, image: &Image) -> Result<Vec<Name>, Stop> {
     let files = kept_files(visit.alloc(), image)?;
     let mut names = Vec::new(visit.alloc());
-    for text in words.get_strs("NAME").unwrap_or(&[]) {
+    let given = words.get_strs("NAME").unwrap_or(&[]);
+    if given.is_empty() {
+        return Err(visit.refuse(2, "no file was named: give names, or --all"));
+    }
+    for text in given {
         let found = Name::read(text.as_bytes()).and_then(|name| files
             .get(&name)
             .map(|kept| (name, *kept)));
@@ -89,12 +159,20 @@ fn names_of(visit: &Visit, words: &ArgMatches, image: &Image) -> Result<Vec<Name
 fn append_names(names: &mut Vec<Name>, name: Name, kept: &Kept) -> Result<(), AllocError> {
     if kept.direct.is_some() {
         names.push(name)?;
+        if kept.complete {
+            append_part(names, &name, 0)?;
+        }
         return Ok(());
     }
     for number in 0..=kept.parts {
-        if let Some(part) = part_name(&name, number) {
-            names.push(part)?;
-        }
+        append_part(names, &name, number)?;
+    }
+    Ok(())
+}
+
+fn append_part(names: &mut Vec<Name>, name: &Name, number: u32) -> Result<(), AllocError> {
+    if let Some(part) = part_name(name, number) {
+        names.push(part)?;
     }
     Ok(())
 }

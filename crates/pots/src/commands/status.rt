@@ -2,7 +2,9 @@
 
 use crate::words::command;
 use pot_image::Image;
-use pot_report::{Holding, Room, Size, holdings, place_of};
+use pot_report::{Holding, Room, Size, holdings, kept_files, place_of};
+use pots_looks::tell_habits;
+use pots_shares::tell_shares;
 use pots_vault::{Standing, Stop, Visit, image, look_at, place_text};
 use serde_json::json;
 use std::alloc::{AllocError, Global};
@@ -22,14 +24,17 @@ pub fn work(visit: &mut Visit) -> Result<u8, Stop> {
     tell_archives(visit, &image)?;
     let room = Room::left(visit.alloc(), &image)?.bytes();
     if visit.json {
+        let files = kept_files(visit.alloc(), &image)?.len() as u64;
         let line =
-            json!(in visit.alloc(); {"session": image.session, "files": image.records.len() as u64, "room": room})?;
+            json!(in visit.alloc(); {"session": image.session, "files": files, "room": room})?;
         let line = line.to_string(visit.alloc())?;
         println!(visit; "{line}")?;
     } else {
         let left = Size(room);
         println!(visit; "room for {left} more")?;
     }
+    tell_shares(visit, &image)?;
+    tell_habits(visit)?;
     Ok(0)
 }
 

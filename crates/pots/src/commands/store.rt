@@ -1,12 +1,14 @@
 //! `store`: files that are stored.
 
+use crate::commands::store_folder;
 use crate::gathering::Gathered;
-use crate::words::{operands, option, session_command};
-use clap::ArgMatches;
+use crate::short::{add_short, is_listed_otherwise};
+use crate::words::{operands, option, session_command, switch};
+use clap::{Arg, ArgAction, ArgMatches};
 use pot_bytes::{Name, digest_of};
 use pot_client::{PART_SIZE, count_parts, ends_as_part, part, part_name};
 use pot_report::{Manifest, Size, name_text, spoken_name};
-use pots_vault::{Known, Progress, Stop, Visit, image};
+use pots_vault::{Known, Progress, Stop, Visit, image, is_stored};
 use std::alloc::{AllocError, Global};
 use std::collections::BTreeSet;
 use std::fs;
@@ -19,11 +21,28 @@ pub fn words<'a>(alloc: Global) -> Result<clap::Command<'a>, AllocError> {
     let command = session_command(
         alloc,
         "store",
-        "Store files, each under the last part of its path",
+        "Store files, each under the last part of its path, or a folder as a snapshot",
     )?;
     command
-        .arg(operands(alloc, "FILE", "The files to store"))?
-        .arg(option(alloc, "as", "NAME", "Store the one file under this name"))
+        .arg(operands(alloc, "FILE", "The files to store, or one folder"))?
+        .arg(option(
+            alloc,
+            "as",
+            "NAME",
+            "Store the one file or folder under this name",
+        ))?
+        .arg(
+            Arg::new(alloc, "exclude")
+                .long("exclude")
+                .action(ArgAction::Append)
+                .value_name("PATTERN")
+                .help("Of a folder leave out the paths that fit, with * and ?"),
+        )?
+        .arg(switch(
+            alloc,
+            "dry-run",
+            "Tell what of a folder is new, and store nothing",
+        ))
 }
 
 /// A file that is to be stored.
@@ -40,6 +59,12 @@ pub fn work<X: Threads + Wait + Sync>(
     visit: &mut Visit,
     words: &ArgMatches,
 ) -> Result<u8, Stop> {
+    if let Some(folder) = store_folder::folder_in(visit, words) {
+        return store_folder::work(turns, visit, words, folder);
+    }
+    if words.get_flag("dry-run") || words.get_strs("exclude").is_some() {
+        return Err(visit.refuse(2, "--exclude and --dry-run are for one folder"));
+    }
     let items = asked(visit, words)?;
     let image = image(visit)?;
     let known = Known::of(visit.alloc(), image)?;
@@ -90,7 +115,7 @@ fn told_ended(visit: &Visit, name: &Name) -> u8 {
 
 /// What came of a file.
 #[derive(Clone, Copy)]
-enum Outcome {
+pub enum Outcome {
     Good,
     /// It was not stored, and others may be.
     Refused,
@@ -137,7 +162,7 @@ fn item_of(visit: &Visit, path: &str, given: Option<&str>) -> Result<Item, Stop>
     };
     if !file.is_file() {
         let line = format!(in visit.alloc();
-            "{path} is no file: give files, and pack a folder into one first"
+            "{path} is no file: give files, or one folder by itself"
         )?;
         return Err(visit.refuse(4, line.as_str()));
     }
@@ -226,11 +251,14 @@ fn store_item<X: Threads + Wait + Sync>(
     if file.len() > PART_SIZE {
         return store_long(turns, visit, known, (&item.name, &file), gathered);
     }
-    if known.kept(&item.name).is_some() {
+    if known.is_begun(&item.name) {
         let same = known.digest(&item.name) == Some(digest_of(&file));
         return Ok(told_stored(visit, &item.name, same));
     }
-    Ok(added(gathered.add(turns, visit, item.name, &file)?))
+    if is_listed_otherwise(visit, known, (&item.name, &file))? {
+        return Ok(told_stored(visit, &item.name, false));
+    }
+    Ok(added(add_short(turns, visit, known, (&item.name, &file), gathered)?))
 }
 
 // What came of a file that was added, or was not.
@@ -257,8 +285,8 @@ fn told_stored(visit: &Visit, name: &Name, same: bool) -> Outcome {
     }
 }
 
-// Stores a file of several parts, unless it is stored already.
-fn store_long<X: Threads + Wait + Sync>(
+/// Stores a file of several parts, unless it is stored already.
+pub fn store_long<X: Threads + Wait + Sync>(
     turns: &X,
     visit: &mut Visit,
     known: &Known,
@@ -270,9 +298,15 @@ fn store_long<X: Threads + Wait + Sync>(
     };
     let list = Manifest::of(visit.alloc(), *name, file)?.text(visit.alloc())?;
     let list = list.as_bytes();
-    if known.kept(name).is_some_and(|kept| kept.is_whole()) {
+    if known.kept(name).is_some_and(|kept| is_stored(&kept)) {
         let same = known.digest(&list_name) == Some(digest_of(list));
         return Ok(told_stored(visit, name, same));
+    }
+    if known
+        .digest(&list_name)
+        .is_some_and(|stored| stored != digest_of(list))
+    {
+        return Ok(told_stored(visit, name, false));
     }
     match store_parts(turns, visit, known, (name, file), gathered)? {
         Outcome::Good => {}

@@ -1,0 +1,141 @@
+//! When the vault was last checked and drilled, in the file `last-check` of its folder.
+//!
+//! A line of it is a word, `check` or `drill`, the seconds since 1970, and the day, which is there
+//! to be read by people. Other lines are passed over, and left out where it is written.
+
+use crate::dates::{date_text, days_between, now};
+use pots_vault::{Stop, Visit, put_file};
+use serde_json::json;
+use std::fs;
+use std::str::from_utf8;
+
+/// The file.
+const FILE: &str = "last-check";
+
+/// A file that has more bytes is not that of `pots`.
+const LONGEST: u64 = 4096;
+
+/// A look is old after so many days.
+const OLD: u64 = 35;
+
+/// What is remembered.
+#[derive(Clone, Copy, PartialEq, Eq, Debug)]
+pub enum Habit {
+    Check,
+    Drill,
+}
+
+impl Habit {
+    fn word(self) -> &'static str {
+        match self {
+            Habit::Check => "check",
+            Habit::Drill => "drill",
+        }
+    }
+}
+
+/// Remembers that this was done now. Where that cannot be written it is said, and nothing else
+/// changes.
+pub fn remember(visit: &Visit, habit: Habit) -> Result<(), Stop> {
+    let moment = now(&visit.rt);
+    let check = last(visit, Habit::Check)?;
+    let drill = last(visit, Habit::Drill)?;
+    let mut text = String::new(visit.alloc());
+    match habit {
+        Habit::Check => {
+            append_line(visit, &mut text, Habit::Check, Some(moment))?;
+            append_line(visit, &mut text, Habit::Drill, drill)?;
+        }
+        Habit::Drill => {
+            append_line(visit, &mut text, Habit::Check, check)?;
+            append_line(visit, &mut text, Habit::Drill, Some(moment))?;
+        }
+    }
+    let rt = &visit.rt;
+    if put_file(rt, FILE, text.as_bytes(), true).is_err() {
+        let _ = eprintln!(rt;
+            "pots: last-check could not be written, so pots status does not tell of this: see that files can be made in this folder"
+        );
+    }
+    Ok(())
+}
+
+fn append_line(
+    visit: &Visit,
+    text: &mut String,
+    habit: Habit,
+    moment: Option<u64>,
+) -> Result<(), Stop> {
+    if let Some(seconds) = moment {
+        let word = habit.word();
+        let date = date_text(visit.alloc(), seconds)?;
+        text.push_str(format!(in visit.alloc(); "{word} {seconds} {date}\n")?.as_str())?;
+    }
+    Ok(())
+}
+
+// When this was last done, where that is known.
+fn last(visit: &Visit, habit: Habit) -> Result<Option<u64>, Stop> {
+    let rt = &visit.rt;
+    match fs::metadata(rt, FILE) {
+        Ok(found) if found.is_file() && found.len() <= LONGEST => {}
+        _ => return Ok(None),
+    }
+    let Ok(bytes) = fs::read(rt, FILE) else {
+        return Ok(None);
+    };
+    let mut moment = None;
+    for line in from_utf8(&bytes).unwrap_or("").lines() {
+        if let Some(seconds) = moment_in(line, habit) {
+            moment = Some(seconds);
+        }
+    }
+    Ok(moment)
+}
+
+// The moment that a line tells, where it is of this habit.
+fn moment_in(line: &str, habit: Habit) -> Option<u64> {
+    let mut words = line.split(' ');
+    if words.next() != Some(habit.word()) {
+        return None;
+    }
+    words.next()?.parse::<u64>().ok()
+}
+
+/// Tells when the vault was last checked and drilled.
+pub fn tell_habits(visit: &Visit) -> Result<(), Stop> {
+    let check = last(visit, Habit::Check)?;
+    let drill = last(visit, Habit::Drill)?;
+    tell_habit(visit, Habit::Check, check)?;
+    tell_habit(visit, Habit::Drill, drill)
+}
+
+fn tell_habit(visit: &Visit, habit: Habit, moment: Option<u64>) -> Result<(), Stop> {
+    let word = habit.word();
+    let date = match moment {
+        Some(seconds) => date_text(visit.alloc(), seconds)?,
+        None => String::from_str(visit.alloc(), "not known")?,
+    };
+    let date = date.as_str();
+    if visit.json {
+        let line = json!(in visit.alloc(); {"last": word, "date": date})?;
+        let line = line.to_string(visit.alloc())?;
+        return println!(visit; "{line}");
+    }
+    let ago = ago_text(visit, moment)?;
+    println!(visit; "last {word}: {date}{ago}")
+}
+
+// How long ago a moment was, and what to do where that is too long.
+fn ago_text(visit: &Visit, moment: Option<u64>) -> Result<String, Stop> {
+    let Some(seconds) = moment else {
+        return Ok(String::new(visit.alloc()));
+    };
+    let days = days_between(seconds, now(&visit.rt));
+    let advice = if days > OLD {
+        "; look once a month"
+    } else {
+        ""
+    };
+    Ok(format!(in visit.alloc(); ", {days} days ago{advice}")?)
+}

@@ -1,0 +1,120 @@
+//! A page that shows a vault: its places, groups and archives, and the emergency sheet.
+//!
+//! It has no script and asks for nothing from outside. Text that comes from paths is escaped.
+
+use crate::sheet::sheet_text;
+use pot_image::Image;
+use pot_looks::escape;
+use pot_report::{Holding, holdings, place_of};
+use pots_vault::{Stop, Visit, image, place_text};
+use std::str::from_utf8;
+
+/// What stands before the map.
+const HEAD: &str = "<!DOCTYPE html>
+<html lang=\"en\">
+<head>
+<meta charset=\"utf-8\">
+<title>A potshards vault</title>
+<style>
+body { font-family: sans-serif; margin: 2em; }
+table { border-collapse: collapse; }
+td, th { border: 1px solid #666; padding: 0.4em; text-align: left; font-size: 90%; }
+td.S { background: #c8e6c9; }
+td.L { background: #ffcdd2; }
+td.F { background: #eeeeee; }
+pre { border: 1px solid #666; padding: 1em; overflow-x: auto; }
+</style>
+</head>
+<body>
+<h1>A potshards vault</h1>
+<p>S: all blocks are there. L: blocks are lost. F: no block yet. Behind the letter: blocks that are
+there, that are lost, and slots that are free, by the desk.</p>
+<table>
+";
+
+/// What stands between the map and the sheet.
+const MIDDLE: &str = "</table>
+<pre>
+";
+
+/// What stands behind the sheet.
+const TAIL: &str = "</pre>
+</body>
+</html>
+";
+
+/// The page.
+pub fn page_text(visit: &mut Visit) -> Result<String, Stop> {
+    let sheet = sheet_text(visit)?;
+    let image = image(visit)?;
+    let mut page = String::from_str(visit.alloc(), HEAD)?;
+    append_map(visit, &mut page, &image)?;
+    page.push_str(MIDDLE)?;
+    append_escaped(visit, &mut page, sheet.as_str())?;
+    page.push_str(TAIL)?;
+    Ok(page)
+}
+
+// A row for each group, and a cell for each archive.
+fn append_map(visit: &Visit, page: &mut String, image: &Image) -> Result<(), Stop> {
+    let mut last = None;
+    for holding in holdings(visit.alloc(), image)?.iter() {
+        if last != Some(holding.group) {
+            begin_row(visit, page, image, holding.group)?;
+            last = Some(holding.group);
+        }
+        append_cell(visit, page, image, holding)?;
+    }
+    page.push_str("</tr>\n")?;
+    Ok(())
+}
+
+fn begin_row(visit: &Visit, page: &mut String, image: &Image, group: u8) -> Result<(), Stop> {
+    let place = place_of(&image.rack, group);
+    let end = if group == 0 { "" } else { "</tr>\n" };
+    let text = format!(in visit.alloc();
+        "{end}<tr><th>place {place}</th><th>group {group}</th>\n"
+    )?;
+    page.push_str(text.as_str())?;
+    Ok(())
+}
+
+fn append_cell(
+    visit: &Visit,
+    page: &mut String,
+    image: &Image,
+    holding: &Holding,
+) -> Result<(), Stop> {
+    let letter = letter_of(holding);
+    let number = holding.archive;
+    let live = holding.live;
+    let gone = holding.gone();
+    let free = image.rack.stripes.saturating_sub(live.saturating_add(gone));
+    let kind = if holding.parity { "parity" } else { "data" };
+    let path = place_text(visit, number)?;
+    page.push_str(format!(in visit.alloc(); "<td class=\"{letter}\" title=\"")?.as_str())?;
+    append_escaped(visit, page, path.as_str())?;
+    let text = format!(in visit.alloc();
+        "\">archive {number}, {kind}<br>{letter}: {live}, {gone}, {free}</td>\n"
+    )?;
+    page.push_str(text.as_str())?;
+    Ok(())
+}
+
+// How an archive stands, as a letter.
+fn letter_of(holding: &Holding) -> &'static str {
+    if holding.gone() > 0 {
+        "L"
+    } else if holding.live == 0 {
+        "F"
+    } else {
+        "S"
+    }
+}
+
+// Adds a text, escaped.
+fn append_escaped(visit: &Visit, page: &mut String, text: &str) -> Result<(), Stop> {
+    let escaped = escape(visit.alloc(), text.as_bytes())?;
+    page.push_str(from_utf8(&escaped).unwrap_or(""))?;
+    Ok(())
+}
