@@ -1,0 +1,10 @@
+pub mod Rows
+pub mod Copying
+pub mod SlotLemmas
+pub mod TableLemmas
+pub mod Pairs
+pub mod ImageLemmas
+pub mod ListLemmas
+pub mod OnceLemmas
+pub mod ReadLemmas
+pub mod LiveLemmas

@@ -1,0 +1,19 @@
+//! What is proved of slots that are found again.
+ghost use Rattle.pot_recheck.specs.Laws.{DigestsStay, VoidsStay, LivesStay, ListsAll, RulesStay};
+ghost use Rattle.pot_recheck.specs.Laws.{FoundOnce, TwiceIsOnce, AllFound};
+
+/// What is proved of slots that are found again. Digests stay, what is Void stays Void and nothing
+/// else becomes Void, and what is Live stays Live. The list of `unsound_slots` has all slots that
+/// are Lost or Broken and no others. An image keeps the rules of images. What an image comes to is
+/// one image, and a second time changes nothing. Where all slots are found again, all are Live that
+/// are not Void. It does nothing.
+pub fn recheck_laws()
+    ensures digests { DigestsStay }
+    ensures voids { VoidsStay }
+    ensures lives { LivesStay }
+    ensures lists { ListsAll }
+    ensures rules { RulesStay }
+    ensures once { FoundOnce }
+    ensures twice { TwiceIsOnce }
+    ensures all { AllFound }
+{}
