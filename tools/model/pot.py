@@ -4,7 +4,7 @@
 import os
 import sys
 
-from potmodel import constants, files, generator, group_stories, image, pieces, random_stories, recovery, session, session_stories
+from potmodel import constants, files, generator, group_stories, image, pieces, program, random_stories, recovery, session, session_stories
 from potmodel.devices import Sink, Source
 
 USAGE = """pot.py group < stories
@@ -74,7 +74,7 @@ def recover(folder, archives, stripes, blur, way="rings"):
 def run(folder, *words):
     """Works a command line over the files of a folder, as the program does; the seed is drawn by the system."""
     sink = Sink()
-    status = session.run(list(words), os.urandom(32), Source(sys.stdin.buffer.read()), sink, files.FileRoom(folder), files.FileDesk(folder))
+    status = program.run(list(words), os.urandom(32), Source(sys.stdin.buffer.read()), sink, files.FileRoom(folder), files.FileDesk(folder))
     sys.stdout.buffer.write(bytes(sink.written))
     return status
 
