@@ -1,8 +1,8 @@
 -- An image of which some slots are made Live keeps the rules of images.
-use Rattle.std.proofs.Common.{◌≡◌, ◌<◌, ◌≤◌, ◌+◌, ◌^◌, ◌++◌, ℕ, false, List, [], length, get_or, map, flat_map, refl, sym, ap, ap₂, subst, ◌∙◌, arith, All}
+use Rattle.std.proofs.Common.{◌≡◌, ◌+◌, ◌++◌, ℕ, List, length, get_or, flat_map, sym, ap, subst, ◌∙◌, arith, All}
 use Rattle.std.specs.Prelude.{Some, slice_get}
 use Rattle.std.proofs.lemmas.List.{length-append}
-use Rattle.std.proofs.lemmas.List.Elements.{All-weaker, All-from_get_or, All-get_or}
+use Rattle.std.proofs.lemmas.List.Elements.{All-weaker, All-get_or}
 use Rattle.std.proofs.lemmas.Option.{slice_get_within, slice_get-get_or, get_or_from_slice_get}
 use Rattle.pot_bytes.specs.declared.rack.Place.{Place}
 use Rattle.pot_bytes.specs.declared.rack.Rack.{Rack}
@@ -14,7 +14,7 @@ use Rattle.pot_index.specs.declared.record.Record.{Record}
 use Rattle.pot_index.specs.Records.{record_bytes, splits_of}
 use Rattle.pot_image.specs.Images.{Contents}
 use Rattle.pot_image.specs.Spelling.{cursor_bytes, column_bytes, slot_bytes, table_bytes, head_bytes, counted_bytes, entry_bytes, index_entry_bytes, field_bytes, image_bytes}
-use Rattle.pot_image.specs.Rules.{AreArchives, AreTables, AreRecords, FitsTable, FitsTogether, HasDigest, HaveDigests, IsFilled, IsImage, IsRecordOver}
+use Rattle.pot_image.specs.Rules.{AreArchives, AreTables, FitsTable, FitsTogether, HaveDigests, IsFilled, IsImage, IsRecordOver}
 use Rattle.pot_image.proofs.ImageBack.{image_long}
 use Rattle.pot_recheck.specs.declared.listing.Unsound.{Unsound}
 use Rattle.pot_recheck.specs.Finding.{AreFoundTables, IsFound, IsFoundTable}

@@ -8,3 +8,4 @@ pub mod ListLemmas
 pub mod OnceLemmas
 pub mod ReadLemmas
 pub mod LiveLemmas
+pub mod NoneLemmas

@@ -1,17 +1,16 @@
 -- The image in which all slots are Live that are not Void: it may be written, and keeps the rules of images.
-use Rattle.std.proofs.Common.{◌≡◌, ◌<◌, ◌≤◌, ◌^◌, ℕ, List, Result, Ok, Err, OnOk, length, get_or, map, sym, ap, subst, ◌∙◌, arith, All}
+use Rattle.std.proofs.Common.{◌<◌, ◌^◌, List, Result, Ok, Err, OnOk, length, get_or, sym, subst, arith, All}
 use Rattle.std.proofs.lemmas.List.{get_or-map, length-map}
-use Rattle.pot_bytes.specs.Rack.{log_bound}
 use Rattle.pot_machine.specs.declared.entry.Entry.{Entry}
 use Rattle.pot_image.specs.declared.image.Image.{Image}
-use Rattle.pot_image.specs.Images.{Contents, contents, AnswersImage}
-use Rattle.pot_image.specs.Spelling.{IsCountable, image_bytes}
-use Rattle.pot_image.specs.Rules.{FitsEntry, FitsTogether, IsImage, IsLog, IsWhole, IsWholeEntry}
+use Rattle.pot_image.specs.Images.{Contents, contents}
+use Rattle.pot_image.specs.Spelling.{IsCountable}
+use Rattle.pot_image.specs.Rules.{FitsTogether, IsImage, IsWhole}
 use Rattle.pot_recheck.specs.declared.listing.Unsound.{Unsound}
 use Rattle.pot_recheck.specs.Finding.{IsFound}
 use Rattle.pot_recheck.specs.Rechecking.{WasRead}
 use Rattle.pot_recheck.proofs.ImageLemmas.{still_together}
-use Rattle.pot_recheck.proofs.ReadLemmas.{HasReadLogs, InRack, fits_of, read_logs}
+use Rattle.pot_recheck.proofs.ReadLemmas.{fits_of, read_logs}
 
 countable : (i : Image) → length (contents i).records < 2 ^ 32 → All (λ (l : List Entry). length l < 2 ^ 32) (contents i).group_logs → length (contents i).index_log < 2 ^ 32 → IsCountable i
 countable i records logs index = record {

@@ -1,23 +1,21 @@
 -- What an image comes to is one image, and a second time changes nothing.
-use Rattle.std.proofs.Common.{◌≡◌, ◌<◌, ◌+◌, ◌*◌, ℕ, List, [], if◌then◌else◌, length, map, get_or, refl, sym, ap, ap₂, subst, ◌∙◌, arith, All}
-use Rattle.std.specs.Prelude.{Some, slice_get}
+use Rattle.std.proofs.Common.{◌≡◌, ◌<◌, ℕ, List, if◌then◌else◌, map, get_or, refl, sym, ap, subst, ◌∙◌, arith}
 use Rattle.std.proofs.lemmas.List.{get_or-map, length-map}
 use Rattle.std.proofs.lemmas.Option.{slice_get_within}
-use Rattle.pot_machine.specs.declared.slot.SlotState.{SlotState}
 use Rattle.pot_machine.specs.declared.slot.SlotState.TheVariants.{Void}
 use Rattle.pot_machine.specs.Slot.{live_of}
 use Rattle.pot_machine.specs.Table.{Table, width, place_of, slot_at}
-use Rattle.pot_machine.specs.Rules.{IsTable, HasSize}
+use Rattle.pot_machine.specs.Rules.{IsTable}
 use Rattle.pot_machine.proofs.Places.{place_below}
 use Rattle.pot_image.specs.Images.{Contents}
-use Rattle.pot_image.specs.Rules.{FitsTable, FitsTogether}
+use Rattle.pot_image.specs.Rules.{FitsTogether}
 use Rattle.pot_recheck.specs.declared.listing.Unsound.{Unsound}
 use Rattle.pot_recheck.specs.Listing.{in_image}
-use Rattle.pot_recheck.specs.Finding.{is_named, found_slot, IsFound, IsFoundTable}
+use Rattle.pot_recheck.specs.Finding.{is_named, IsFound, IsFoundTable}
 use Rattle.pot_recheck.specs.Rechecking.{live_table, all_live}
 use Rattle.pot_recheck.proofs.SlotLemmas.{same_slots, by_twice}
 use Rattle.pot_recheck.proofs.TableLemmas.{with_slots}
-use Rattle.pot_recheck.proofs.ImageLemmas.{still_rules, still_together, before, fit_at}
+use Rattle.pot_recheck.proofs.ImageLemmas.{still_rules, before, fit_at}
 use Rattle.pot_recheck.proofs.ListLemmas.{all_named}
 use Rattle.pot_recheck.proofs.Pairs.{same_lists, same_tables}
 

@@ -1,8 +1,7 @@
 -- Two lists of tables of one length, element by element.
-use Rattle.std.proofs.Common.{◌≡◌, ◌<◌, ◌≤◌, ◌+◌, ◌⊎◌, ◌++◌, inl, inr, ⊎_elim, ℕ, zero, suc, List, [], ◌∷◌, length, take, get_or, map, flat_map, refl, sym, ap, ap₂, subst, ◌∙◌, arith, All}
-use Rattle.std.specs.Prelude.{Some, None, slice_get}
+use Rattle.std.proofs.Common.{◌≡◌, ◌<◌, ◌+◌, ◌⊎◌, ◌++◌, inl, inr, ℕ, zero, suc, List, [], ◌∷◌, length, take, get_or, map, flat_map, refl, sym, ap, ap₂, subst, ◌∙◌, arith}
+use Rattle.std.specs.Prelude.{Some, slice_get}
 use Rattle.std.proofs.lemmas.List.{take_more, length-append, length-take-le}
-use Rattle.std.proofs.lemmas.Option.{slice_get_within, slice_get-get_or}
 use Rattle.pot_machine.specs.Table.{Table}
 use Rattle.pot_recheck.specs.declared.listing.Unsound.{Unsound}
 use Rattle.pot_recheck.specs.Finding.{IsFoundTable, AreFoundTables}

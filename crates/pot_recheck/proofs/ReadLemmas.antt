@@ -1,8 +1,7 @@
 -- The logs of an image that was read are those of its rack.
-use Rattle.std.proofs.Common.{◌≡◌, ◌<◌, ◌≤◌, ◌+◌, ◌-◌, ◌^◌, ◌⊎◌, inl, inr, ⊎_elim, ℕ, ◌==◌, nat_le, Bool, true, false, List, [], ◌∷◌, Result, Ok, Err, length, get_or, map, refl, sym, ap, subst, ◌∙◌, arith, All, if◌then◌else◌}
+use Rattle.std.proofs.Common.{◌≡◌, ◌<◌, ◌≤◌, ◌+◌, ◌-◌, inl, inr, ℕ, ◌==◌, nat_le, Bool, true, false, List, [], Result, Ok, Err, length, refl, sym, ap, subst, arith, All, if◌then◌else◌}
 use Rattle.std.proofs.lemmas.Bool.{leb-true}
-use Rattle.std.proofs.lemmas.List.{length-append}
-use Rattle.std.proofs.lemmas.List.Elements.{All-nil, All-push, All-weaker}
+use Rattle.std.proofs.lemmas.List.Elements.{All-nil, All-push}
 use Rattle.pot_bytes.specs.declared.digest.Digest.{Digest}
 use Rattle.pot_bytes.specs.declared.rack.Rack.{Rack}
 use Rattle.pot_bytes.specs.Rack.{IsRack, log_bound}
@@ -18,8 +17,7 @@ use Rattle.pot_image.specs.Tables.{tables}
 use Rattle.pot_image.specs.Records.{records}
 use Rattle.pot_image.specs.Logs as logs
 use Rattle.pot_image.specs.Images.{Contents, contents, image, Answered, Trailed, Measured, Numbered, Marked, AnswersImage}
-use Rattle.pot_image.specs.Spelling.{IsCountable}
-use Rattle.pot_image.specs.Rules.{IsAt, IsMove, FitsEntry, FitsTogether, IsLog, IsWholeEntry}
+use Rattle.pot_image.specs.Rules.{IsAt, IsMove, FitsEntry, FitsTogether, IsWholeEntry}
 use Rattle.pot_image.proofs.Once.{read_of}
 use Rattle.pot_image.proofs.Steps.{holds_of, between_of}
 use Rattle.pot_image.proofs.Inverse.{parts, done_is, several_keep}

@@ -1,5 +1,5 @@
 -- A table of which some slots are made Live.
-use Rattle.std.proofs.Common.{◌≡◌, ◌<◌, ◌≤◌, ◌+◌, ◌-◌, ◌++◌, ℕ, zero, suc, Option, Some, None, List, [], ◌∷◌, length, map, flat_map, refl, sym, ap, ap₂, subst, ◌∙◌, arith, All}
+use Rattle.std.proofs.Common.{◌≡◌, ◌+◌, ◌-◌, ℕ, Option, Some, None, List, [], ◌∷◌, length, map, flat_map, refl, sym, ap, ap₂, subst, ◌∙◌, arith, All}
 use Rattle.std.specs.Prelude.{IfSome, IfOk, Result, Ok, Err}
 use Rattle.std.proofs.lemmas.List.{length-append}
 use Rattle.std.proofs.lemmas.List.Elements.{All-cons, All-head, All-tail, All-nil}
@@ -9,7 +9,7 @@ use Rattle.pot_machine.specs.declared.cursor.Cursor.{Cursor}
 use Rattle.pot_machine.specs.declared.slot.SlotState.{SlotState}
 use Rattle.pot_machine.specs.declared.slot.SlotState.TheVariants.{Void, Live, Lost, Broken}
 use Rattle.pot_machine.specs.Slot.{digest_in}
-use Rattle.pot_machine.specs.Table.{Table, width}
+use Rattle.pot_machine.specs.Table.{Table}
 use Rattle.pot_machine.specs.Rules.{IsTable}
 use Rattle.pot_machine.specs.Making.{table_of}
 use Rattle.pot_machine.proofs.Voids.{voids_kept, cursor_kept}
@@ -18,7 +18,7 @@ use Rattle.pot_image.specs.Rules.{HasDigest, IsDigest}
 use Rattle.pot_image.specs.Spelling.{slot_bytes}
 use Rattle.pot_recheck.specs.declared.listing.Unsound.{Unsound}
 use Rattle.pot_recheck.specs.Finding.{AreFoundSlots, IsFoundTable}
-use Rattle.pot_recheck.proofs.SlotLemmas.{same_digests, voids_same}
+use Rattle.pot_recheck.proofs.SlotLemmas.{voids_same}
 
 -- THE RULES OF A TABLE
 

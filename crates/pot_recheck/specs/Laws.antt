@@ -1,5 +1,5 @@
 -- What is proved of slots that are found again.
-use Rattle.std.specs.Prelude.{◌≡◌, ◌↔◌, ◌<◌, ℕ, Some, List, IsTrue, slice_get}
+use Rattle.std.specs.Prelude.{◌≡◌, ◌↔◌, ◌<◌, ℕ, List, [], IsTrue}
 use Rattle.std.specs.List.{Contains}
 use Rattle.pot_machine.specs.Slot.{digest_in, is_void, is_live}
 use Rattle.pot_machine.specs.Table.{Table, width, slot_at}
@@ -48,8 +48,11 @@ TwiceIsOnce =
     (found : List Unsound) (v w x : Contents) → FitsTogether v → IsFound found v w
     → IsFound found w x → x ≡ w
 
--- Where all that are Lost or Broken are found again, all slots are Live that are not Void. None is
--- Lost or Broken then.
+-- Where all that are Lost or Broken are found again, all slots are Live that are not Void.
 abbrev pub AllFound : Type 0
 AllFound =
     (v w : Contents) → FitsTogether v → IsFound (in_image v) v w → w ≡ all_live v
+
+-- Then none is Lost or Broken any more.
+abbrev pub NoneLeft : Type 0
+NoneLeft = (v : Contents) → in_image (all_live v) ≡ []

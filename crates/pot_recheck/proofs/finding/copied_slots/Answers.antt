@@ -1,4 +1,4 @@
-use Rattle.std.proofs.Common.{arith, ◌≡◌, ◌++◌, ◌*◌, take, drop, ap, ◌∙◌}
+use Rattle.std.proofs.Common.{arith}
 use Rattle.pot_recheck.proofs.Copying.{stripe_copied, all_copied}
 use Rattle.pot_recheck.proofs.finding.copied_slots.Goals as goal
 

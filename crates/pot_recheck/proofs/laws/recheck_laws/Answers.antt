@@ -1,5 +1,6 @@
 use Rattle.pot_recheck.proofs.ImageLemmas.{still_image}
 use Rattle.pot_recheck.proofs.ListLemmas.{listed_is, is_listed}
+use Rattle.pot_recheck.proofs.NoneLemmas.{none_left}
 use Rattle.pot_recheck.proofs.OnceLemmas.{found_once, twice_once, all_found}
 use Rattle.pot_recheck.proofs.laws.recheck_laws.Goals as goal
 
@@ -17,3 +18,6 @@ returns-clause-twice c = twice_once
 
 pub returns-clause-all : goal.returns-clause-all
 returns-clause-all c = all_found
+
+pub returns-clause-left : goal.returns-clause-left
+returns-clause-left c = none_left

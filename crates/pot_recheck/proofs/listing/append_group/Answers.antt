@@ -1,5 +1,4 @@
-use Rattle.std.proofs.Common.{◌++◌, ◌≡◌, ◌≤◌, None, length, ap, sym, ◌∙◌, append-nil, arith, subst, ℕ, Bool, true, false, nat_lt}
-use Rattle.std.specs.Prelude.{slice_get}
+use Rattle.std.proofs.Common.{◌++◌, ◌≡◌, ◌≤◌, length, ap, sym, ◌∙◌, append-nil, arith, ℕ, false, nat_lt}
 use Rattle.std.proofs.lemmas.Bool.Decides.{nat_tests}
 use Rattle.std.proofs.lemmas.Option.{slice_get_past}
 use Rattle.pot_recheck.specs.Listing.{in_group}

@@ -1,4 +1,4 @@
-use Rattle.std.proofs.Common.{◌≡◌, ◌<◌, inr, Some, [], length, ap, subst, ◌∙◌, arith}
+use Rattle.std.proofs.Common.{inr, Some, length, ap, subst, ◌∙◌, arith}
 use Rattle.pot_outside.specs.Failing.{MayLeave}
 use Rattle.pot_recheck.proofs.rechecking.keep_found.Goals as goal
 

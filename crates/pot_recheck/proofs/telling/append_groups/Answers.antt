@@ -1,4 +1,4 @@
-use Rattle.std.proofs.Common.{◌≡◌, ◌++◌, ap, ◌∙◌, refl, arith}
+use Rattle.std.proofs.Common.{◌++◌, ap, ◌∙◌, refl, arith}
 use Rattle.pot_recheck.specs.Telling.{count_in, group_line}
 use Rattle.pot_recheck.proofs.Rows.{rows_more, rows_end}
 use Rattle.pot_recheck.proofs.telling.append_groups.Goals as goal
