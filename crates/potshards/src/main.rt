@@ -1,14 +1,18 @@
-//! The program: it draws a seed, makes the real objects and calls `run` with them, once.
+//! The program: it draws a seed, makes the real objects and calls `run` with them, once. For the
+//! word `recheck` alone it calls `recheck` in place of `run`, and draws no seed.
 //!
-//! Nothing is decided here but the status where no seed or no memory for the words is had. What a
-//! call does is the contract of `run`, and what the real objects promise that of their own types.
+//! Nothing is decided here but which of the two is called, and the status where no seed or no memory
+//! for the words is had. What a call does is the contract of `run` or of `recheck`, and what the real
+//! objects promise that of their own types.
 #![tactic(auto)]
 
+mod rechecking;
 #[cfg(test)]
 mod session_tests;
 
 use pot_files::{DeskFile, Folder, Input, NoGate, Output, advice_at, drawn};
 use pot_session::run;
+use rechecking::{is_recheck, recheck_desk};
 use std::env;
 use std::io::ErrorKind;
 use std::process::ExitCode;
@@ -31,13 +35,21 @@ fn words(rt: &HostRuntime) -> Option<Vec<String>> {
     }
 }
 
-/// One call on the real objects, and its exit status. `turns` is the handle for waiting.
-fn session<X: Threads + Wait + Sync>(rt: &HostRuntime, turns: &X) -> u8 {
-    let Ok(seed) = drawn(rt) else {
-        return SOURCE_FAULT;
-    };
+/// What the words ask for, and its exit status. `turns` is the handle for waiting.
+fn answer<X: Threads + Wait + Sync>(rt: &HostRuntime, turns: &X) -> u8 {
     let Some(words) = words(rt) else {
         return NO_MEMORY;
+    };
+    if is_recheck(&words) {
+        return recheck_desk(rt);
+    }
+    session(rt, turns, &words)
+}
+
+/// One call on the real objects, and its exit status.
+fn session<X: Threads + Wait + Sync>(rt: &HostRuntime, turns: &X, words: &[String]) -> u8 {
+    let Ok(seed) = drawn(rt) else {
+        return SOURCE_FAULT;
     };
     let mut input = Input::new(rt);
     let mut output = Output::new(rt);
@@ -46,7 +58,7 @@ fn session<X: Threads + Wait + Sync>(rt: &HostRuntime, turns: &X) -> u8 {
     run(
         turns,
         rt.alloc(),
-        &words,
+        words,
         seed,
         &mut input,
         &mut output,
@@ -57,7 +69,7 @@ fn session<X: Threads + Wait + Sync>(rt: &HostRuntime, turns: &X) -> u8 {
 }
 
 fn main(rt: HostRuntime) -> ExitCode {
-    let status = session(&rt, &rt);
+    let status = answer(&rt, &rt);
     if let Some(line) = advice_at(status) {
         // A line that cannot be written changes nothing of the session.
         let _ = eprintln!(rt; "{line}");
