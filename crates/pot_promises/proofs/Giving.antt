@@ -31,8 +31,9 @@ use Rattle.pot_replies.specs.Stores.{IsStored}
 use Rattle.pot_commands.proofs.Logs.{names_to}
 use Rattle.pot_session.specs.Serving.{setting_of}
 use Rattle.pot_promises.specs.Answers.{IsAnswered, job_at}
-use Rattle.pot_promises.specs.Chains.{IsSession, Begins, Later, Same, Begun, More}
+use Rattle.pot_promises.specs.Chains.{IsRechecked, IsSession, Begins, Later, Same, Begun, More, FoundAgain}
 use Rattle.pot_promises.specs.Promises.{GivesBack, GivesBackLater}
+use Rattle.pot_promises.proofs.FindingAgain.{rack_stays, records_stay}
 use Rattle.pot_promises.proofs.Keeping.{Has, still_has, published_has, found_digest}
 use Rattle.pot_promises.proofs.Walking.{IsCut, row_at, cut_at, behind_at}
 
@@ -147,10 +148,18 @@ pub left_names : (rack : Rack) (n : Names) (v : Contents) → AreNames rack n �
 left_names rack n v a same is =
     subst (λ (r : Rack). AreNames r (names_of v)) (sym same) (subst (λ rs. AreNames rack (names_read rs)) (sym is) (published_names rack n a))
 
+-- those of an image that has the rack and the records of another
+same_names : (left next : Contents) → next.rack ≡ left.rack → next.records ≡ left.records → AreNames left.rack (names_of left) → AreNames next.rack (names_of next)
+same_names left next rack records names =
+    subst (λ (r : Rack). AreNames r (names_of next)) (sym rack) (subst (λ rs. AreNames left.rack (names_read rs)) (sym records) names)
+
 -- and those of the image with which the next one begins
 pub begins_names : (left first : Contents) → Begins left first → AreNames left.rack (names_of left) → AreNames first.rack (names_of first)
-begins_names left first begins names =
-    subst (λ (r : Rack). AreNames r (names_of first)) (sym begins.rack) (subst (λ rs. AreNames left.rack (names_read rs)) (sym begins.records) names)
+begins_names left first begins names = same_names left first begins.rack begins.records names
+
+-- or of the one that a recheck left
+pub recheck_names : (left next : Contents) → IsRechecked left next → AreNames left.rack (names_of left) → AreNames next.rack (names_of next)
+recheck_names left next again names = same_names left next (rack_stays again.found left next again.is) (records_stay again.found left next again.is) names
 
 -- the image that a session left keeps what its log led to
 left_keeps : (rack : Rack) (n : Names) (v : Contents) (name : List ℕ) (d : Digest) → AreNames rack n → Has n name d → v.rack ≡ rack → v.records ≡ n.published → Keeps v name d
@@ -166,6 +175,13 @@ begins_keeps left first name d begins keeps = record {
   has = subst (λ rs. Has (names_read rs) name d) (sym begins.records) keeps.has;
 }
 
+-- and the image that a recheck left
+recheck_keeps : (left next : Contents) (name : List ℕ) (d : Digest) → IsRechecked left next → Keeps left name d → Keeps next name d
+recheck_keeps left next name d again keeps = record {
+  names = recheck_names left next again keeps.names;
+  has = subst (λ rs. Has (names_read rs) name d) (sym (records_stay again.found left next again.is)) keeps.has;
+}
+
 later_keeps : (from left : Contents) (name : List ℕ) (d : Digest) → Keeps from name d → Later from left → Keeps left name d
 later_keeps from left name d keeps Same = keeps
 later_keeps from left name d keeps (Begun {left = before} sofar begins) = begins_keeps before left name d begins (later_keeps from before name d keeps sofar)
@@ -175,6 +191,7 @@ later_keeps from left name d keeps (More {left = before} {first} sofar begins le
     (replay_keeps first.rack (names_of first) leaves.records.ended leaves.story.index_added there.names leaves.records.replays)
     (still_has first.rack (names_of first) leaves.records.ended leaves.story.index_added name d there.names leaves.records.replays there.has)
     leaves.rack leaves.records.is
+later_keeps from left name d keeps (FoundAgain {left = before} sofar again) = recheck_keeps before left name d again (later_keeps from before name d keeps sofar)
 
 -- so a file that was stored is kept by the image with which a later session begins
 pub stored_keeps : (seed : List ℕ) (first last : Contents) (ss : List Step) (rs : List Reply) (session : IsSession seed first last ss rs) (p i : ℕ) (name file of : List ℕ) (pieces shards : ℕ)

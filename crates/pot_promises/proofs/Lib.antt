@@ -2,6 +2,7 @@ pub mod AnsweredWords
 pub mod Answering
 pub mod Faulting
 pub mod Fetching
+pub mod FindingAgain
 pub mod FirstReplies
 pub mod Framing
 pub mod Giving
@@ -11,6 +12,7 @@ pub mod Odds
 pub mod OddsLater
 pub mod OwnGroups
 pub mod Quiet
+pub mod Rechecking
 pub mod Replying
 pub mod Running
 pub mod Serving

@@ -1,9 +1,10 @@
 -- No fetch of a file that an earlier session stored is odd, where nothing renewed its name.
-use Rattle.std.proofs.Common.{◌≡◌, ◌<◌, ℕ, List, [], ◌∷◌, ◌++◌, Some, refl, ap, sym, ◌∙◌, subst, arith, append_assoc}
+use Rattle.std.proofs.Common.{◌≡◌, ◌<◌, ℕ, List, [], ◌∷◌, ◌++◌, Some, ap, sym, ◌∙◌, subst, arith, append_assoc}
 use Rattle.std.specs.Prelude.{Contains, slice_get}
 use Rattle.std.proofs.lemmas.List.Elements.{Contains-append_left, Contains-append_right}
 use Rattle.std.proofs.lemmas.Option.{same_Some, get_or_from_slice_get, slice_get_within}
 use Rattle.pot_bytes.specs.declared.digest.Digest.{Digest}
+use Rattle.pot_bytes.proofs.Elements.{element_at}
 use Rattle.pot_machine.specs.declared.entry.Entry.{Entry}
 use Rattle.pot_machine.specs.Logs.{replayed}
 use Rattle.pot_machine.specs.Machine.{Replays, after}
@@ -30,16 +31,17 @@ use Rattle.pot_script.specs.declared.reply.Reply.TheVariants as replies
 use Rattle.pot_image.specs.Images.{Contents}
 use Rattle.pot_image.specs.Rules.{FitsTable}
 use Rattle.pot_replies.specs.Digests.{NoTwoAlike}
-use Rattle.pot_replies.specs.Sections.{Section, MovesThenRest, work_of}
+use Rattle.pot_replies.specs.Sections.{work_of}
 use Rattle.pot_replies.specs.Stores.{Placed}
 use Rattle.pot_session.specs.Serving.{setting_of}
 use Rattle.pot_shared.specs.Leaving.{still}
 use Rattle.pot_shared.proofs.Lists.{all_at_place}
 use Rattle.pot_promises.specs.Answers.{IsAnswered, job_at}
-use Rattle.pot_promises.specs.Chains.{Begins, Begun, IsSession, Later, Leaves, More, Same}
+use Rattle.pot_promises.specs.Chains.{Begins, Begun, FoundAgain, IsRechecked, IsSession, Later, Leaves, More, Same}
 use Rattle.pot_promises.specs.Odds.{NeverOddLater, WasOdd}
 use Rattle.pot_promises.specs.Veils.{stream_blocks}
-use Rattle.pot_promises.proofs.Giving.{begins_names, first_names, led, left_names, names_of, published_in, transition}
+use Rattle.pot_promises.proofs.FindingAgain.{columns_stay, digest_stays, records_stay}
+use Rattle.pot_promises.proofs.Giving.{begins_names, first_names, led, left_names, names_of, published_in, recheck_names, transition}
 use Rattle.pot_promises.proofs.Keeping.{published_goes}
 use Rattle.pot_promises.proofs.Odds.{its_table, kept_fills, not_odd, put_in, saw_in, seen_is_put}
 use Rattle.pot_promises.proofs.Veils.{IsKept, kept_at}
@@ -144,11 +146,38 @@ module _ (kept : Record) (placed : List Placed) where
             });
       }
 
+  -- the one that a recheck leaves
+  recheck_carries : (left next : Contents) → IsRechecked left next → Carries kept placed left → Carries kept placed next
+  recheck_carries left next again c = record {
+    names = recheck_names left next again c.names;
+    its = c.its;
+    has = subst (λ rs. Contains rs c.its) (sym (records_stay again.found left next again.is)) c.has;
+    goes = c.goes;
+    slots = λ b x at. slot_again x (c.slots b x at);
+  }
+    where
+      slot_again : (x : Placed) → HasSlot left x → HasSlot next x
+      slot_again x s =
+          let g : ℕ = x.group in
+          let tables = again.is.tables in
+          let count = tables.count in
+          let within = slice_get_within left.tables g s.t s.there in
+          let u = element_at next.tables g (omega (arith, within, count)) in
+          let its = tables.each g s.t u.0 s.there u.1 in
+          let rules = all_at_place (FitsTable left.rack) left.tables g s.t again.fits.tables.fits s.there in
+          record {
+            t = u.0;
+            there = u.1;
+            digest = digest_stays again.found g s.t u.0 its rules.rules x.stripe x.column ∙ s.digest;
+            column = (let same = columns_stay again.found g s.t u.0 its in let lt = s.column in omega (arith, same, lt));
+          }
+
   later_carries : (from left : Contents) → Carries kept placed from → Later from left → Carries kept placed left
   later_carries from left c Same = c
   later_carries from left c (Begun {left = before} sofar begins) = begins_carries before left begins (later_carries from before c sofar)
   later_carries from left c (More {left = before} {first} sofar begins leaves) =
       leaves_carries first left leaves (begins_carries before first begins (later_carries from before c sofar))
+  later_carries from left c (FoundAgain {left = before} sofar again) = recheck_carries before left again (later_carries from before c sofar)
 
 -- THE SESSION THAT STORED THE FILE
 

@@ -11,9 +11,11 @@ use Rattle.pot_script.specs.declared.command.Command.{Command}
 use Rattle.pot_script.specs.declared.grouping.Step.{Step}
 use Rattle.pot_script.specs.declared.reply.Reply.{Reply}
 use Rattle.pot_image.specs.declared.image.Image.{Image}
-use Rattle.pot_image.specs.Images.{Contents, contents, AnswersImage}
+use Rattle.pot_image.specs.Images.{Contents, contents}
 use Rattle.pot_image.specs.Rules.{FitsTogether, IsImage}
-use Rattle.pot_image.proofs.ImageBack.{answers_back}
+use Rattle.pot_recheck.specs.declared.rechecking.Rechecked.{Rechecked}
+use Rattle.pot_recheck.specs.declared.rechecking.Rechecked.TheVariants as rechecked
+use Rattle.pot_recheck.specs.Rechecking.{Rechecks}
 use Rattle.pot_replies.specs.Sections.{Section, Follows}
 use Rattle.pot_replies.specs.Sessions.{Replied}
 use Rattle.pot_replies.specs.Sessions as Sessions
@@ -38,12 +40,13 @@ use Rattle.pot_session.specs.Tasks.{seed_of}
 use Rattle.pot_session.specs.Runs.{Holds, Stopped, Served, AtDesk, AtScript, AtOpening, IsOf, Seen, Stops}
 use Rattle.pot_session.specs.Serving.{Serves, Unlent, Unopened, Closed, IsClosed, Leaves, close_answer, setting_of, status_by}
 use Rattle.pot_session.specs.Stops.{Refuses, status_of}
-use Rattle.std.proofs.lemmas.Option.{same_Some, slice_get_within}
+use Rattle.std.proofs.lemmas.Option.{slice_get_within}
 use Rattle.pot_bytes.proofs.Elements.{element_at}
 use Rattle.pot_machine.specs.Machine.{Replays}
 use Rattle.pot_promises.specs.Chains.{AllLead, Begins, Begun, IsSession, Later, More, Same}
 use Rattle.pot_image.specs.Spelling.{image_bytes}
-use Rattle.pot_promises.specs.Runs.{Bare, Came, CarefulKeeps, ClosedAs, DesksStayGood, HasImage, HasLater, IsDone, IsKeptAs, Next, NoneClosed, RanAs, RunsAreSessions, RunsGoLater, RunsGoOn, RunsMayClose}
+use Rattle.pot_promises.specs.Runs.{Bare, CarefulKeeps, ClosedAs, DesksStayGood, HasImage, HasLater, IsDone, IsKeptAs, Next, NoneClosed, RanAs, Recheck, RunsAreSessions, RunsGoLater, RunsMayClose}
+use Rattle.pot_promises.proofs.Rechecking.{none_stays, rechecks_go_on, runs_go_on}
 
 -- no stop gives such a status
 not_done : (s : Stop) → IsDone (status_of s) → ⊥
@@ -180,18 +183,6 @@ had_begun : (desk : Transition (Option (List ℕ))) (first last : Contents) → 
     → HasImage desk.after first ⊎ (HasImage desk.after last ⊎ (desk.after ≡ None))
 had_begun desk first last is before (inl same) = inl (same ∙ before, is)
 had_begun desk first last is before (inr new) = inr new
-
--- THE NEXT RUN
-
-pub runs_go_on : RunsGoOn
-runs_go_on last held read (has, is_image) (bytes, is, answers) =
-    let same : bytes ≡ image_bytes last = same_Some bytes (image_bytes last) (sym is ∙ has) in
-    let it : contents read ≡ last = answers_back last is_image (Ok read) (subst (λ b. AnswersImage b (Ok read)) same answers) in
-    record {
-      rack = ap (λ (v : Contents). v.rack) it;
-      tables = ap (λ (v : Contents). v.tables) it;
-      records = ap (λ (v : Contents). v.records) it;
-    }
 
 -- A RUN
 
@@ -394,7 +385,7 @@ pub runs_go_later : RunsGoLater
 runs_go_later seed careful seen answer it told from (left, has, sofar) =
     later_by seed seen from left sofar has (held_shut seed careful seen answer told it)
 
--- RUNS, ONE AFTER THE OTHER
+-- RUNS AND RECHECKS, ONE AFTER THE OTHER
 
 abbrev IsGood : Option (List ℕ) → Type 0
 IsGood held = (held ≡ None) ⊎ ((rack : Rack) × HasLater (empty_contents rack) held)
@@ -455,6 +446,16 @@ next_good words drawn seen answer (Auditing a spells unread audits same room) to
 next_good words drawn seen answer (Generating n spells unread generates same room) told good = still_good (held_in seen.desk) (same told) good
 next_good words drawn seen answer (Session that spelled it) told good = run_good (seed_of that drawn) that.careful seen answer it told good
 
+-- a recheck
+recheck_good : (desk : Transition (Option (List ℕ))) (answer : Rechecked) → Rechecks desk answer → IsGood desk.before → IsGood desk.after
+recheck_good desk answer is (inl none) = inl (none_stays desk answer is none)
+recheck_good desk answer is (inr (rack, later)) = by (rechecks_go_on desk answer is (empty_contents rack) later)
+  where
+    by : HasLater (empty_contents rack) desk.after ⊎ ((answer ≡ rechecked.DeskFault) × (desk.after ≡ None)) → IsGood desk.after
+    by (inl more) = inr (rack, more)
+    by (inr (failed, none)) = inl none
+
 pub desks_stay_good : DesksStayGood
 desks_stay_good held Bare = inl refl
 desks_stay_good held (Next words drawn seen answer came runs told) = next_good words drawn seen answer runs told (desks_stay_good seen.desk.before.held came)
+desks_stay_good held (Recheck desk answer came is) = recheck_good desk answer is (desks_stay_good desk.before came)

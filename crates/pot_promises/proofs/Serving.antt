@@ -1,6 +1,6 @@
 -- What the archives hold still of the blocks that an image names.
 use Rattle.std.proofs.Common.{◌≡◌, ◌≢◌, ◌⊎◌, inl, inr, ◌<◌, ◌≤◌, ◌^◌, ℕ, zero, suc, IsTrue, List, [], ◌∷◌, length, refl, sym, ap, ◌∙◌, subst, arith}
-use Rattle.std.specs.Prelude.{Contains, Some, flat_map, slice_get}
+use Rattle.std.specs.Prelude.{Contains, IfSome, Some, flat_map, slice_get}
 use Rattle.std.proofs.lemmas.Bool.{cases_eq}
 use Rattle.std.proofs.lemmas.List.Elements.{Contains-append_left}
 use Rattle.std.proofs.lemmas.Option.{same_Some}
@@ -12,15 +12,18 @@ use Rattle.pot_outside.specs.Accounts.{Transition}
 use Rattle.pot_outside.specs.Archives.{Meaning}
 use Rattle.pot_outside.specs.Rooms.{RoomState}
 use Rattle.pot_machine.specs.declared.entry.Entry.{Entry}
+use Rattle.pot_machine.specs.Column.{names}
 use Rattle.pot_machine.specs.Machine.{Replays}
 use Rattle.pot_machine.specs.Rules.{IsTable}
 use Rattle.pot_machine.specs.Slot.{digest_in}
-use Rattle.pot_machine.specs.Table.{Table, archives_in, serving_at, width}
+use Rattle.pot_machine.specs.Table.{Table, archives_in, column_at, serving_at, width}
 use Rattle.pot_group.specs.Arrivals.{arrivals}
 use Rattle.pot_group.specs.Remaining.{HasServed, KeepsServed}
 use Rattle.pot_group.proofs.Remains.{served_kept, serving_has}
 use Rattle.pot_image.specs.Images.{Contents}
 use Rattle.pot_image.specs.Rules.{FitsTable, FitsTogether}
+use Rattle.pot_recheck.specs.declared.listing.Unsound.{Unsound}
+use Rattle.pot_recheck.specs.Finding.{IsFoundTable}
 use Rattle.pot_replies.specs.Sections.{Section}
 use Rattle.pot_shared.specs.Hands.{times}
 use Rattle.pot_shared.specs.Leaving.{LeavesGroup, still}
@@ -29,9 +32,11 @@ use Rattle.pot_shared.proofs.Lists.{all_at_place}
 use Rattle.pot_shared.proofs.Times.{contains_times, times-append, times_contains}
 use Rattle.pot_session.specs.Serving.{IsInRoom, Leaves, came_by}
 use Rattle.pot_session.proofs.LossLemmas.{get_within}
+use Rattle.pot_promises.specs.Chains.{Again, IsRechecked, MayBeRechecked, Never}
 use Rattle.pot_promises.specs.Frames.{IsFramed}
 use Rattle.pot_promises.specs.Remaining.{BlocksRemain, HasClosed, HoldsOf, HoldsStill, InARow, OlderDeskFinds, OneTakes, Past, ServedRemain, Takes}
 use Rattle.pot_promises.specs.Remaining.{NotBack, Brought, Elsewhere, Failed, Lost}
+use Rattle.pot_promises.proofs.FindingAgain.{digest_stays, rack_stays}
 use Rattle.pot_promises.proofs.Framing.{frame_of_run}
 
 -- a slot of a table is one of 2^32
@@ -135,21 +140,57 @@ module _ (g s c : ℕ) (d : Digest) (n : ℕ) where
       fresh : times n (came_by x.last.group_logs) ≡ 0 → Contains (arrivals log) n → ⊥
       fresh none h = (let a = contains_times (arrivals log) n h in let b = times_within arrivals x.last.group_logs g log n is_log in omega (arith, a, b, none))
 
+  -- a recheck changes neither what a slot's digest is nor whom the columns name
+  served_found : (found : List Unsound) (t u : Table) → IsTable t → IsFoundTable found g t u → HasServed t s c d n → HasServed u s c d n
+  served_found found t u rules is has = record {
+    digest = digest_stays found g t u is rules s c ∙ has.digest;
+    only = subst (λ (x : Table). (k : ℕ) → k < width x → IsTrue (names (column_at x k) n) → k ≡ c) (sym is.rest) has.only;
+    passed = subst (λ (x : Table). IfSome (column_at x c).moving (λ m. n ≡ m.to → s < m.upto)) (sym is.rest) has.passed;
+  }
+
+  -- the table of the group after rechecks
+  record StillServed (left next : Contents) : Type 0 where
+    rack : next.rack ≡ left.rack
+    now : Table
+    there : slice_get next.tables g ≡ Some now
+    served : HasServed now s c d n
+
+  after_recheck : (left next last : Contents) → IsRechecked next last → StillServed left next → StillServed left last
+  after_recheck left next last rechecked was =
+      let is = rechecked.is in
+      let count = is.tables.count in
+      let within = get_within next.tables g was.now was.there in
+      let u = element_at last.tables g (omega (arith, within, count)) in
+      let rules = all_at_place (FitsTable next.rack) next.tables g was.now rechecked.fits.tables.fits was.there in
+      record {
+        rack = rack_stays rechecked.found next last is ∙ was.rack;
+        now = u.0;
+        there = u.1;
+        served = served_found rechecked.found was.now u.0 rules.rules (is.tables.each g was.now u.0 was.there u.1) was.served;
+      }
+
+  after_rechecks : (left last : Contents) → MayBeRechecked left last → (t : Table) → slice_get left.tables g ≡ Some t → HasServed t s c d n → StillServed left last
+  after_rechecks left last Never t is_t has = record { rack = refl; now = t; there = is_t; served = has }
+  after_rechecks left last (Again {next} sofar rechecked) t is_t has = after_recheck left next last rechecked (after_rechecks left next sofar t is_t has)
+
   -- session after session
   in_a_row : (left : Contents) (meant : ℕ → Meaning) (xs : List Past) (now : ℕ → Meaning) → InARow left meant xs now → (t : Table) → slice_get left.tables g ≡ Some t
       → s < left.rack.stripes → c < left.rack.columns → HasServed t s c d n → HoldsOf (meant n) s d → HoldsOf (now n) s d ⊎ OneTakes xs g s c n
   in_a_row left meant [] now is t is_t low within has held = inl (subst (λ (f : ℕ → Meaning). HoldsOf (f n) s d) (sym is) held)
-  in_a_row left meant (x ∷ xs) now (begins, closed, is_meant, rest) t is_t low within has held =
-      let is_read : slice_get x.first.tables g ≡ Some t = ap (λ ts. slice_get ts g) begins.tables ∙ is_t in
-      let there : g < length x.first.tables = get_within x.first.tables g t is_read in
+  in_a_row left meant (x ∷ xs) now ((next, rechecked, begins), closed, is_meant, rest) t is_t low within has held =
+      let kept = after_rechecks left next rechecked t is_t has in
+      let same_rack : x.first.rack ≡ left.rack = begins.rack ∙ kept.rack in
+      let u : Table = kept.now in
+      let is_read : slice_get x.first.tables g ≡ Some u = ap (λ ts. slice_get ts g) begins.tables ∙ kept.there in
+      let there : g < length x.first.tables = get_within x.first.tables g u is_read in
       let written = element_at x.last.tables g (let a = closed.leaves.groups.count in omega (arith, a, there)) in
       let log = element_at x.last.group_logs g (let a = closed.leaves.groups.count_logs in omega (arith, a, there)) in
-      let fits : FitsTable x.first.rack t = all_at_place (FitsTable x.first.rack) x.first.tables g t closed.fits.tables.fits is_read in
-      let racks = ap (λ (r : Rack). r.stripes) begins.rack in
-      let wide = ap (λ (r : Rack). r.columns) begins.rack in
+      let fits : FitsTable x.first.rack u = all_at_place (FitsTable x.first.rack) x.first.tables g u closed.fits.tables.fits is_read in
+      let racks = ap (λ (r : Rack). r.stripes) same_rack in
+      let wide = ap (λ (r : Rack). r.columns) same_rack in
       let left_rack = ap (λ (r : Rack). r.stripes) closed.leaves.rack in
       let left_wide = ap (λ (r : Rack). r.columns) closed.leaves.rack in
-      elim (one_session x closed t written.0 log.0 is_read written.1 log.1 (omega (arith, low, racks, fits.stripes)) (omega (arith, within, wide, fits.data_columns)) has
+      elim (one_session x closed u written.0 log.0 is_read written.1 log.1 (omega (arith, low, racks, fits.stripes)) (omega (arith, within, wide, fits.data_columns)) kept.served
       (subst (λ (f : ℕ → Meaning). HoldsOf (f n) s d) (sym is_meant) held)) [
         | inl y ↦ elim (in_a_row x.last x.room.after.means xs now rest written.0 written.1 (omega (arith, low, racks, left_rack)) (omega (arith, within, wide, left_wide)) y.0 y.1) [
           | inl z ↦ inl z

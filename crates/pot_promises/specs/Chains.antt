@@ -1,4 +1,5 @@
--- Sessions, each of which begins with the image that the one before left.
+-- Sessions, each of which begins with the image that the one before left, and rechecks between
+-- them.
 use Rattle.std.specs.Prelude.{◌≡◌, ◌++◌, ℕ, List, [], Some, slice_get}
 use Rattle.pot_machine.specs.Table.{Table}
 use Rattle.pot_machine.specs.Machine.{Replays}
@@ -6,6 +7,8 @@ use Rattle.pot_script.specs.declared.grouping.Step.{Step}
 use Rattle.pot_script.specs.declared.reply.Reply.{Reply}
 use Rattle.pot_image.specs.Images.{Contents}
 use Rattle.pot_image.specs.Rules.{FitsTogether}
+use Rattle.pot_recheck.specs.declared.listing.Unsound.{Unsound}
+use Rattle.pot_recheck.specs.Finding.{IsFound}
 use Rattle.pot_replies.specs.Sections.{Section, Follows}
 use Rattle.pot_replies.specs.Sessions.{Replied}
 use Rattle.pot_commands.specs.Rows.{Row}
@@ -52,10 +55,30 @@ pub record Begins (left first : Contents) : Type 0 where
   pub tables : first.tables ≡ left.tables
   pub records : first.records ≡ left.records
 
--- From one image to another by any number of sessions, each over the image that the one before
--- left: it closed, or only began, and the desk has the image of its close or of its beginning.
+-- What a recheck makes of an image whose parts fit together: slots that were Lost or Broken are
+-- found again, all of them or some.
+pub record IsRechecked (left next : Contents) : Type 0 where
+  pub fits : FitsTogether left
+  pub found : List Unsound
+  pub is : IsFound found left next
+
+-- an image, or what rechecks made of it, one after the other
+pub data MayBeRechecked (left : Contents) : Contents → Type 0 where
+  Never : MayBeRechecked left left
+  Again : {next last : Contents} → MayBeRechecked left next → IsRechecked next last
+      → MayBeRechecked left last
+
+-- An image with which a session may begin, for one that an earlier session left and that may have
+-- been rechecked since.
+abbrev pub BeginsAfter : Contents → Contents → Type 0
+BeginsAfter left first = (next : Contents) × MayBeRechecked left next × Begins next first
+
+-- From one image to another by any number of sessions and rechecks, each over the image that the
+-- one before left. A session closed, or only began, and the desk has the image of its close or of
+-- its beginning. A recheck left what it made of the image.
 pub data Later (from : Contents) : Contents → Type 0 where
   Same : Later from from
   Begun : {left first : Contents} → Later from left → Begins left first → Later from first
   More : {left first last : Contents} → Later from left → Begins left first → Leaves first last
       → Later from last
+  FoundAgain : {left next : Contents} → Later from left → IsRechecked left next → Later from next

@@ -39,7 +39,7 @@ use Rattle.pot_promises.specs.Veils.{stream_blocks}
 -- WHAT WAS STORED
 
 -- A file was stored under this name before step q of a session: in an earlier step of it, or in an
--- earlier session, whose close the desk has, whatever sessions came in between.
+-- earlier session, whose close the desk has, whatever sessions and rechecks came in between.
 pub data WasStored (name file : List ℕ) (first : Contents) (ss : List Step) (rs : List Reply)
     (q : ℕ) : Type 0 where
   Here : (p i : ℕ) (of : List ℕ) (pieces shards : ℕ) → p < q

@@ -58,8 +58,8 @@ NeverOdd =
     → NoTwoAlike (stream_blocks seed first (job_at ss p i) file ++ read) → ⊥
 
 -- The same over sessions: the file was stored in one, whose close the desk has, and its name was
--- fetched in a later one, whatever other sessions came in between. The record that the fetch found
--- has one split, so that nothing renewed the name.
+-- fetched in a later one, whatever other sessions and rechecks came in between. The record that the
+-- fetch found has one split, so that nothing renewed the name.
 abbrev pub NeverOddLater : Type 0
 NeverOddLater =
     (seed : List ℕ) (first last : Contents) (ss : List Step) (rs : List Reply)

@@ -25,8 +25,8 @@ GivesBack =
     → NoTwoAlike (file ∷ bytes ∷ []) → bytes ≡ file
 
 -- The same over sessions: the file was stored in one, whose close the desk has, and its name was
--- fetched in a later one, whatever other sessions came in between, and however each of all these
--- ended.
+-- fetched in a later one, whatever other sessions and rechecks came in between, and however each of
+-- all these ended.
 abbrev pub GivesBackLater : Type 0
 GivesBackLater =
     (seed : List ℕ) (first last : Contents) (ss : List Step) (rs : List Reply)

@@ -18,7 +18,7 @@ use Rattle.pot_image.specs.Rules.{FitsTogether}
 use Rattle.pot_replies.specs.Sections.{Section}
 use Rattle.pot_shared.specs.Hands.{times}
 use Rattle.pot_session.specs.Serving.{Leaves, OthersStay, came_by}
-use Rattle.pot_promises.specs.Chains.{Begins}
+use Rattle.pot_promises.specs.Chains.{BeginsAfter}
 
 -- an archive holds a block of this digest in this slot
 abbrev pub HoldsOf : Meaning → ℕ → Digest → Type 0
@@ -83,12 +83,13 @@ pub record HasClosed (x : Past) : Type 0 where
   pub leaves : Leaves x.room x.missing x.first x.last x.story
   pub others : OthersStay x.first.tables x.last.group_logs x.room.before.means x.room.after.means
 
--- Sessions over one room, each of which began with the image that the one before left. The first
--- began with this image, when the room meant this, and after the last it means that.
+-- Sessions over one room, each of which began with the image that the one before left, or with what
+-- rechecks made of it. The first began so with this image, when the room meant this, and after the
+-- last it means that.
 abbrev pub InARow : Contents → (ℕ → Meaning) → List Past → (ℕ → Meaning) → Type 0
 InARow left meant [] now = now ≡ meant
 InARow left meant (x ∷ xs) now =
-    Begins left x.first × HasClosed x × (x.room.before.means ≡ meant)
+    BeginsAfter left x.first × HasClosed x × (x.room.before.means ≡ meant)
     × InARow x.last x.room.after.means xs now
 
 -- What may have taken, in one session, the block that an archive had in a data slot of a group: the
@@ -109,9 +110,9 @@ abbrev pub OneTakes : List Past → ℕ → ℕ → ℕ → ℕ → Type 0
 OneTakes [] g s c n = ⊥
 OneTakes (x ∷ xs) g s c n = Takes x g s c n ⊎ OneTakes xs g s c n
 
--- The desk of before, put back, finds its blocks: after any sessions in a row over its room, the
--- archive that serves a Live data slot by the image of before holds its block, if it held it then,
--- unless one of these has taken it.
+-- The desk of before, put back, finds its blocks: after any sessions in a row over its room, with
+-- rechecks between them or not, the archive that serves a Live data slot by the image of before
+-- holds its block, if it held it then, unless one of these sessions has taken it.
 abbrev pub OlderDeskFinds : Type 0
 OlderDeskFinds =
     (desk : Contents) (meant now : ℕ → Meaning) (xs : List Past) → FitsTogether desk

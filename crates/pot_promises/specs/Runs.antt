@@ -1,4 +1,4 @@
--- What a run of the program is, and what it leaves on its desk.
+-- What a run of the program is, and what it leaves on its desk, as does a recheck between two runs.
 use Rattle.std.specs.Prelude.{◌≡◌, ◌≢◌, ◌⊎◌, ◌++◌, ℕ, Bool, true, IsTrue, List, Option, Some, None}
 use Rattle.pot_bytes.specs.declared.rack.Rack.{Rack}
 use Rattle.pot_options.specs.Options.{Text}
@@ -12,6 +12,9 @@ use Rattle.pot_image.specs.declared.image.Image.{Image}
 use Rattle.pot_image.specs.Images.{Contents, contents}
 use Rattle.pot_image.specs.Rules.{IsImage}
 use Rattle.pot_image.specs.Spelling.{image_bytes}
+use Rattle.pot_recheck.specs.declared.rechecking.Rechecked.{Rechecked}
+use Rattle.pot_recheck.specs.declared.rechecking.Rechecked.TheVariants as rechecked
+use Rattle.pot_recheck.specs.Rechecking.{Rechecks}
 use Rattle.pot_commands.specs.Ends.{texts_of}
 use Rattle.pot_commands.specs.Streams.{Wrote}
 use Rattle.pot_session.specs.declared.ending.status.Status.{Status}
@@ -21,7 +24,7 @@ use Rattle.pot_session.specs.Calls.{Runs}
 use Rattle.pot_session.specs.Desks.{HoldsImage, begun}
 use Rattle.pot_session.specs.Making.{empty_contents}
 use Rattle.pot_session.specs.Runs.{Holds, Seen}
-use Rattle.pot_promises.specs.Chains.{IsSession, Begins, Later}
+use Rattle.pot_promises.specs.Chains.{IsSession, Begins, BeginsAfter, Later}
 
 -- The desk has this image, as it is written, and the image keeps the rules of images.
 abbrev pub HasImage : Option (List ℕ) → Contents → Type 0
@@ -103,7 +106,7 @@ CarefulKeeps =
     → (answer ≡ status.SinkFault) ⊎ (answer ≡ status.RoomFault) → IsTrue seen.desk.tells
     → IsKeptAs seed seen ⊎ NoneClosed (held_in seen.desk)
 
--- the desk has an image to which sessions lead from this one
+-- the desk has an image to which sessions and rechecks lead from this one
 abbrev pub HasLater : Contents → Option (List ℕ) → Type 0
 HasLater from held = (now : Contents) × HasImage held now × Later from now
 
@@ -115,6 +118,16 @@ RunsGoLater =
     → IsTrue seen.desk.tells → (from : Contents) → HasLater from seen.desk.before.held
     → HasLater from seen.desk.after.held ⊎ (seen.desk.after.held ≡ None)
 
+-- A RECHECK
+
+-- Where the desk had such an image, it has one after a recheck. It has none only where the recheck
+-- answered that the desk failed.
+abbrev pub RechecksGoOn : Type 0
+RechecksGoOn =
+    (desk : Transition (Option (List ℕ))) (answer : Rechecked) → Rechecks desk answer
+    → (from : Contents) → HasLater from desk.before
+    → HasLater from desk.after ⊎ ((answer ≡ rechecked.DeskFault) × (desk.after ≡ None))
+
 -- THE NEXT RUN
 
 -- Where a run left an image on its desk, the next run begins with it.
@@ -123,17 +136,27 @@ RunsGoOn =
     (last : Contents) (held : Option (List ℕ)) (read : Image) → HasImage held last
     → HoldsImage held read → Begins last (begun (contents read))
 
--- RUNS, ONE AFTER THE OTHER
+-- Where the desk had an image and was rechecked, the next run begins with what became of it.
+abbrev pub RechecksBegin : Type 0
+RechecksBegin =
+    (last : Contents) (desk : Transition (Option (List ℕ))) (answer : Rechecked) (read : Image)
+    → HasImage desk.before last → Rechecks desk answer → HoldsImage desk.after read
+    → BeginsAfter last (begun (contents read))
 
--- From a desk that has no image, by runs of the program, each over what the one before left,
--- whatever each was asked for and however it ended, the desk came to hold this.
+-- RUNS AND RECHECKS, ONE AFTER THE OTHER
+
+-- From a desk that has no image, by runs of the program and rechecks in any order, the desk came to
+-- hold this. Each was over what the one before left, whatever each run was asked for and however
+-- each ended.
 pub data Came : Option (List ℕ) → Type 0 where
   Bare : Came None
   Next : (words : List Text) (drawn : List ℕ) (seen : Seen) (answer : Status)
       → Came seen.desk.before.held → Runs words drawn seen answer → IsTrue seen.desk.tells
       → Came seen.desk.after.held
+  Recheck : (desk : Transition (Option (List ℕ))) (answer : Rechecked) → Came desk.before
+      → Rechecks desk answer → Came desk.after
 
--- It has no image, or one to which sessions lead from that of a new archive.
+-- It has no image, or one to which sessions and rechecks lead from that of a new archive.
 abbrev pub DesksStayGood : Type 0
 DesksStayGood =
     (held : Option (List ℕ)) → Came held

@@ -8,16 +8,20 @@
 //!    a batch too, has its replies, what is written is their texts, and the desk has the image that
 //!    the session left, which keeps the rules of images; the next run begins with it (`run_laws`).
 //!    A run that ends otherwise is such a session too, as far as its steps came, if it closed at
-//!    all (`may_close`). A careful one that ended with 5 or with 8 kept the image (`careful`). Where words, image and script are in their grammars it ends so, unless an
-//!    object outside failed or memory ran out (`answered`), also over what a run left
-//!    (`next_answered`). From a desk without an image, by any runs one after the other, the desk has
-//!    none or one to which sessions lead from that of a new archive (`stay_good`); and no session
-//!    says of such an image that it can't be read (`never_refused`).
+//!    all (`may_close`). A careful one that ended with 5 or with 8 kept the image (`careful`).
+//!    Where words, image and script are in their grammars it ends so, unless an object outside
+//!    failed or memory ran out (`answered`), also over what a run left (`next_answered`). From a
+//!    desk without an image, by any runs and rechecks one after the other, the desk has none or one
+//!    to which sessions and rechecks lead from that of a new archive (`stay_good`). No session says
+//!    of such an image that it can't be read (`never_refused`).
 //! 2. Where a command stored a file and a later one of the session fetched its name, the bytes are
 //!    the file (`file_laws`, `gives_back`).
 //! 3. So they are where the name was fetched in a later session, whatever sessions came in between,
 //!    each over the image that the one before left (`file_laws`, `gives_back_later`). Whatever its
 //!    status, a run leaves the image that its desk had, a later one so, or none (`go_later`).
+//!    Between sessions the desk may be rechecked: that leaves a later image so too, and none only
+//!    where the desk failed (`rechecks_go_on`). The next run begins with that image
+//!    (`rechecks_begin`). So 5, 9 and 12 hold across rechecks as well.
 //! 4. Where a command stored a file, its job put the blocks that the stream of the seed, the
 //!    session and the job gives of it; and who sees fewer of them than are needed, of some fragment
 //!    of each piece, sees what every other file of that length gives as well (`veil_laws`).
@@ -33,7 +37,8 @@
 //!    it, or its logs name it: a block by its digest and its place, a sum by the relay that it
 //!    belongs to (`frame_laws`, `run`). Where they held a block they hold one still, unless a write
 //!    there failed or their count of losses rose. So by an older image, put back, the archives of
-//!    its data slots have their blocks, whatever sessions did since (`remain`, `older`).
+//!    its data slots have their blocks, whatever sessions and rechecks did since (`remain`,
+//!    `older`).
 //! 10. `init`, `recover`, `drill`, `generate` and `audit` answer by what their objects mean, unless
 //!    an object outside failed or memory ran out: of each cause it is said which status comes, and
 //!    what is written (`word_laws`).
@@ -58,19 +63,23 @@ ghost use Rattle.pot_promises.specs.Odds.{NeverOdd, NeverOddLater, OddReads};
 ghost use Rattle.pot_promises.specs.Openings.{OpeningsAreTrue};
 ghost use Rattle.pot_promises.specs.Promises.{GivesBack, GivesBackLater};
 ghost use Rattle.pot_promises.specs.Remaining.{BlocksRemain, OlderDeskFinds, ServedRemain};
-ghost use Rattle.pot_promises.specs.Runs.{CarefulKeeps, DesksStayGood, NeverRefused, RunsAreSessions};
-ghost use Rattle.pot_promises.specs.Runs.{RunsGoLater, RunsGoOn, RunsMayClose};
+ghost use Rattle.pot_promises.specs.Runs.{CarefulKeeps, DesksStayGood, NeverRefused, RechecksBegin};
+ghost use Rattle.pot_promises.specs.Runs.{RechecksGoOn, RunsAreSessions, RunsGoLater, RunsGoOn};
+ghost use Rattle.pot_promises.specs.Runs.{RunsMayClose};
 ghost use Rattle.pot_promises.specs.Stretches.{BlindsOfRun, StreamsApart};
 ghost use Rattle.pot_promises.specs.Veils.{StaysVeiled};
 ghost use Rattle.pot_promises.specs.Words.{WordsAreAnswered};
 
-/// What a run of the program is, and with what the next one begins. It does nothing.
+/// What a run of the program is, with what the next one begins, and what a recheck between them
+/// leaves. It does nothing.
 pub fn run_laws()
     ensures sessions { RunsAreSessions }
     ensures may_close { RunsMayClose }
     ensures careful { CarefulKeeps }
     ensures go_on { RunsGoOn }
     ensures go_later { RunsGoLater }
+    ensures rechecks_go_on { RechecksGoOn }
+    ensures rechecks_begin { RechecksBegin }
     ensures stay_good { DesksStayGood }
     ensures never_refused { NeverRefused }
     ensures answered { RunsAreAnswered }
