@@ -1,9 +1,9 @@
 //! The program: it draws a seed, makes the real objects and calls `run` with them, once. For the
 //! word `recheck` alone it calls `recheck` in place of `run`, and draws no seed.
 //!
-//! Nothing is decided here but which of the two is called, and the status where no seed or no memory
-//! for the words is had. What a call does is the contract of `run` or of `recheck`, and what the real
-//! objects promise that of their own types.
+//! Nothing is decided here but which of the two is called, and the status where no seed or no
+//! memory for the words is had. What a call does is the contract of `run` or of `recheck`, and what
+//! the real objects promise that of their own types.
 #![tactic(auto)]
 
 mod rechecking;
