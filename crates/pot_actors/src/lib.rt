@@ -26,8 +26,6 @@ mod publishing;
 mod seat;
 mod split;
 mod storing;
-#[cfg(test)]
-mod tests;
 mod world;
 
 pub use pot_world::Step;

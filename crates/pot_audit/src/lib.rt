@@ -23,8 +23,6 @@ mod coalition;
 mod laws;
 mod loose;
 mod spot;
-#[cfg(test)]
-mod tests;
 mod veil;
 
 pub use auditing::audit_record;

@@ -29,6 +29,3 @@ pub use naming::{LAST_PART, ends_as_part, part_name, read_part_name};
 pub use parts::{PART_SIZE, count_parts, part, parts_are_whole};
 pub use replies::{Replies, read_replies};
 pub use script::write_script;
-
-#[cfg(test)]
-mod tests;

@@ -14,6 +14,3 @@ mod script;
 
 pub use run::{generator_rack, generator_replies, generator_seed, generator_workers};
 pub use script::generate_script;
-
-#[cfg(test)]
-mod tests;

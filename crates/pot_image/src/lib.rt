@@ -32,8 +32,6 @@ mod reading;
 mod records;
 mod slots;
 mod tables;
-#[cfg(test)]
-mod tests;
 mod writing;
 
 pub use fault::ImageFault;

@@ -60,8 +60,6 @@ mod parts;
 mod relay;
 mod slot;
 mod table;
-#[cfg(test)]
-mod tests;
 
 pub use column::{Column, Moving};
 pub use cursor::Cursor;

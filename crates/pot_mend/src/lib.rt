@@ -18,15 +18,9 @@
 
 mod checking;
 mod fault;
-#[cfg(test)]
-mod move_tests;
 mod moving;
 mod repairing;
-#[cfg(test)]
-mod scene;
 mod scrubbing;
-#[cfg(test)]
-mod tests;
 
 pub use checking::{MoveAt, UseFault, check_migrate, check_replace};
 pub use fault::MendFault;

@@ -16,6 +16,3 @@ mod reading;
 
 pub use options::Options;
 pub use reading::read_options;
-
-#[cfg(test)]
-mod tests;

@@ -19,8 +19,6 @@ mod laws;
 mod listing;
 mod rechecking;
 mod telling;
-#[cfg(test)]
-mod tests;
 
 pub use finding::find_again;
 pub use laws::recheck_laws;

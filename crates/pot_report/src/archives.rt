@@ -97,7 +97,9 @@ fn holding_of(table: &GroupTable, group: u8, column: u8, archive: u32, uses: &Us
     };
     for stripe in 0..table.stripes() {
         if table.archive_of(stripe, column) == archive {
-            holding.count(stripe, table.slot(stripe, column), uses.has(group, stripe));
+            let is_stuck = table.stuck_by(stripe, column).is_some();
+            let used = uses.has(group, stripe);
+            holding.count(stripe, table.slot(stripe, column), used, is_stuck);
         }
     }
     holding
@@ -114,8 +116,9 @@ impl Holding {
         self.gone().saturating_sub(self.idle)
     }
 
-    // Counts the slot of a stripe, of which it is known whether it is in use.
-    fn count(&mut self, stripe: u32, state: SlotState, used: bool) {
+    // Counts the slot of a stripe, of which it is known whether it is in use, and whether a block
+    // that is gone there has too many others beside it that are gone.
+    fn count(&mut self, stripe: u32, state: SlotState, used: bool, is_stuck: bool) {
         match state {
             SlotState::Void => {}
             SlotState::Live(_) => {
@@ -125,6 +128,7 @@ impl Holding {
             SlotState::Lost(_) => {
                 self.lost = self.lost.saturating_add(1);
                 self.idle = self.idle.saturating_add(u32::from(!used));
+                self.stuck = self.stuck.saturating_add(u32::from(used && is_stuck));
             }
             SlotState::Broken(_) => {
                 self.broken = self.broken.saturating_add(1);

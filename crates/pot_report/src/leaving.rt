@@ -50,6 +50,14 @@ impl Room {
         })
     }
 
+    /// The same room, to see what would fit.
+    pub fn copied(&self, alloc: Global) -> Result<Room, AllocError> {
+        Ok(Room {
+            rack: self.rack,
+            free: Vec::from_slice(alloc, &self.free)?,
+        })
+    }
+
     /// About so many bytes of one file have room.
     pub fn bytes(&self) -> u64 {
         let least = self.free.iter().copied().min().unwrap_or(0);

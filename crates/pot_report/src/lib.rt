@@ -14,8 +14,6 @@ mod planning;
 mod recovered;
 mod refusals;
 mod sizes;
-#[cfg(test)]
-mod tests;
 mod texts;
 mod uses;
 mod wording;

@@ -197,7 +197,7 @@ impl Plan {
         let whole = tenths / 10;
         let tenth = tenths % 10;
         format!(in alloc;
-            "archives: {count} of up to {each}, in {groups} groups of {width}; of a group {parity} may be lost at a time and is mended, so give those of a group disks of their own\nroom: {room} of files; a byte of file takes {whole}.{tenth} bytes, and a file at least one piece of 864 bytes\n"
+            "archives: {count} of up to {each}, in {groups} groups of {width}; of a group {parity} may be lost at a time and is mended, so give those of a group disks of their own\nroom: {room} of files; a byte of file takes {whole}.{tenth} bytes, and a file at least two pieces of 864 bytes, its own and its list's\n"
         )
     }
 

@@ -78,7 +78,7 @@ fn lost(alloc: Global, name: &Name, at: (u32, u8), count: (u8, u8)) -> Result<St
     let (piece, fragment) = at;
     let (have, need) = count;
     format!(in alloc;
-        "{name} is not there as a whole: of fragment {fragment} of piece {piece} only {have} of {need} shards were found; pots repair mends what parity gives back; where archives were only not mounted, put the desk of before back, as potshards-recovery(7) tells"
+        "{name} is not there as a whole: of fragment {fragment} of piece {piece} only {have} of {need} shards were found; pots repair mends what parity gives back; where archives are only not mounted, mount them, and what they hold is found again"
     )
 }
 

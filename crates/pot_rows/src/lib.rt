@@ -22,8 +22,6 @@
 mod calls;
 mod ends;
 mod parts;
-#[cfg(test)]
-mod tests;
 mod ties;
 mod works;
 

@@ -47,6 +47,3 @@ pub use printing::{print_bad_line, print_reply, print_words_refused};
 pub use reading::{LONGEST_SCRIPT, read_script};
 pub use reply::{NameList, Reply};
 pub use words::Words;
-
-#[cfg(test)]
-mod tests;

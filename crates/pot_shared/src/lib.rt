@@ -29,8 +29,6 @@ mod remains;
 mod sealed_put;
 mod sharing;
 mod starting;
-#[cfg(test)]
-mod tests;
 mod uses;
 mod vault;
 

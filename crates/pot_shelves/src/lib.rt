@@ -56,8 +56,6 @@ mod noting;
 mod opening;
 mod parities;
 mod slots;
-#[cfg(test)]
-mod tests;
 
 pub use archives::Archives;
 pub use noting::note;

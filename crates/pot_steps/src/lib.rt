@@ -50,8 +50,6 @@ mod flight;
 mod laws;
 mod moving;
 mod rebuilding;
-#[cfg(test)]
-mod tests;
 mod weighing;
 
 pub use flight::Flight;

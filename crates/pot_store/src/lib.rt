@@ -18,11 +18,7 @@
 #![tactic(auto)]
 
 mod drawing;
-#[cfg(test)]
-mod drawing_tests;
 mod expecting;
-#[cfg(test)]
-mod expecting_tests;
 mod fetching;
 mod fragments;
 mod points;

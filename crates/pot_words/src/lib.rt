@@ -34,6 +34,3 @@ pub use recover::{Recover, Way};
 pub use run::Run;
 pub use spot::Spot;
 pub use task::Task;
-
-#[cfg(test)]
-mod tests;

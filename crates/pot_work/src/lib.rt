@@ -20,8 +20,6 @@ ghost use Rattle.pot_work.specs.Works.{AreFresh, AreWorked};
 mod claims;
 mod placing;
 mod rooms;
-#[cfg(test)]
-mod tests;
 mod working;
 
 use pot_outside::Gate;

@@ -1,5 +1,0 @@
-use Rattle.pot_shared.specs.Ready.{AreReady}
-use Rattle.pot_mend.proofs.scene.put_blocks.Given as goal
-
-abbrev pub invariant-loop-number : goal.invariant-loop-number
-invariant-loop-number g l = AreReady l.vault.rack l.vault.groups l.passes.groups

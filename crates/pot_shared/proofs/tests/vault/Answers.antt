@@ -1,5 +1,0 @@
-use Rattle.pot_index.proofs.StoryLemmas.{none_read}
-use Rattle.pot_shared.proofs.tests.vault.Goals as goal
-
-pub start-requires-clause-records : goal.start-requires-clause-records
-start-requires-clause-records c = none_read _ c.new.result.items c.new.ensures.items

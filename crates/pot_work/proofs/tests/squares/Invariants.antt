@@ -1,6 +1,0 @@
-use Rattle.std.proofs.Common.{◌≡◌, IsSome, length}
-use Rattle.pot_work.specs.Works.{AreFresh}
-use Rattle.pot_work.proofs.tests.squares.Given as goal
-
-abbrev pub invariant-loop-number : goal.invariant-loop-number
-invariant-loop-number l = (length l.jobs.items ≡ l.number) × AreFresh (λ j. IsSome j.square) l.jobs.items
