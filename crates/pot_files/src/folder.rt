@@ -3,20 +3,23 @@ ghost use Rattle.std.specs.Ordering.{nat_cmp};
 ghost use Rattle.std.specs.BTreeSet.{contains};
 
 use crate::archive::FileArchive;
+use crate::archive_file::{Shut, open_archive_file};
 use crate::faults::count_fault;
-use crate::opening::{as_it_is, open_apart};
 use crate::progress::Progress;
+use crate::voice::tell;
 use pot_outside::{Archive, Failed, Room, RoomFault};
 use std::collections::BTreeSet;
-use std::fs;
-use std::io::ErrorKind;
 
 /// The working folder, with the archive of number N in its file `archive-N`. A file that is missing
 /// is made, and is an empty archive. A link of that name is followed and stays: the archive is
 /// where it leads. Where it leads to no file, none is made: most likely a disk is not mounted, and
-/// its blocks are not lost.
+/// its blocks are not lost. Where it leads to a file that is no archive's, that is not opened.
 ///
-/// An archive that is given back is on the disk after `Ok`.
+/// An archive of which the system lets nobody write the file is open to be read: a write of it
+/// fails. A line on standard error names each archive that is not opened, or that failed, with the
+/// path to which its name leads.
+///
+/// An archive that is given back is on the disk after `Ok`, if it was written to.
 #[derive(Drop)]
 pub struct Folder {
     rt: HostRuntime,
@@ -43,14 +46,6 @@ impl Folder {
     }
 }
 
-/// Whether this name may be a link. It may not where there is no such name.
-fn may_be_link(rt: &HostRuntime, name: &str) -> bool {
-    match fs::symlink_metadata(rt, name) {
-        Ok(file) => file.is_symlink(),
-        Err(e) => e.kind() != ErrorKind::NotFound,
-    }
-}
-
 /// Opens the archive of a number, which has not failed yet.
 fn open_archive(rt: &HostRuntime, number: u32) -> Result<FileArchive, RoomFault>
     ensures { IfOk result (λ a. a.faults ≡ 0) }
@@ -58,18 +53,29 @@ fn open_archive(rt: &HostRuntime, number: u32) -> Result<FileArchive, RoomFault>
     let Ok(name) = format!(in rt.alloc(); "archive-{number}") else {
         return Err(RoomFault::NoMemory);
     };
-    let linked = may_be_link(rt, name.as_str());
-    match open_apart(rt, &as_it_is(!linked), name.as_str()) {
-        Ok(file) => Ok(FileArchive::new(file)),
-        Err(e) => {
-            if linked && e.kind() == ErrorKind::NotFound {
-                // A line that cannot be written changes nothing of the session.
-                let _ = eprintln!(rt;
-                    "potshards: {name} leads to a file that is not there: is its disk mounted?"
-                );
-            }
+    match open_archive_file(rt, name.as_str(), true) {
+        Ok((file, may_write)) => Ok(FileArchive::named(rt, number, file, may_write)),
+        Err(why) => {
+            tell_shut(rt, name.as_str(), &why);
             Err(RoomFault::Failed)
         }
+    }
+}
+
+/// Tells why the file of an archive was not opened.
+fn tell_shut(rt: &HostRuntime, name: &str, why: &Shut) {
+    match why {
+        Shut::LeadsNowhere => tell(
+            rt,
+            name,
+            "leads to a file that is not there: is its disk mounted?",
+        ),
+        Shut::Foreign => tell(
+            rt,
+            name,
+            "leads to a file with no blocks of an archive, and would be written over: see where the link leads",
+        ),
+        Shut::Failed(e) => tell(rt, name, format_args!("could not be opened: {e}")),
     }
 }
 

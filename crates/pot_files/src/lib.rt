@@ -17,22 +17,30 @@
 
 mod advice;
 mod archive;
+mod archive_file;
 mod desk;
+#[cfg(test)]
+mod desk_tests;
 mod disk;
 mod faults;
 mod folder;
 mod gate;
+mod limit;
 mod opening;
 mod progress;
 mod seed;
 mod streams;
 #[cfg(test)]
 mod tests;
+mod voice;
 
 pub use advice::advice_at;
 pub use archive::FileArchive;
+pub use archive_file::{Shut, open_archive_file};
 pub use desk::DeskFile;
 pub use folder::Folder;
 pub use gate::NoGate;
+pub use limit::longest_file;
+pub use opening::{open_apart, read_file};
 pub use seed::drawn;
 pub use streams::{Input, Output};

@@ -2,7 +2,10 @@ ghost use Rattle.std.specs.Prelude.{◌≡◌, ◌≤◌, ◌<◌, length, IfSom
 
 use crate::faults::count_fault;
 use pot_outside::{Failed, Sink, Source};
-use std::io::{Read, Stdin, Stdout, Write};
+use std::io::{ErrorKind, Read, Stdin, Stdout, Write};
+
+/// How often a call that a signal cut short is made again.
+const TRIES: u32 = 1000;
 
 /// Standard input.
 #[derive(Drop)]
@@ -22,6 +25,20 @@ impl Input {
     }
 }
 
+/// Reads some next bytes, or none. A read that a signal cut short is made again.
+fn read_some(stream: &mut Stdin, into: &mut [u8]) -> Option<usize>
+    ensures within { IfSome result (λ n. n ≤ length into.new) }
+{
+    for _ in 0..TRIES {
+        match stream.read(into) {
+            Ok(count) => return Some(count),
+            Err(e) if e.kind() == ErrorKind::Interrupted => {}
+            Err(_) => return None,
+        }
+    }
+    None
+}
+
 impl Source for Input {
     ghost use Rattle.std.specs.Prelude.{◌≡◌, ℕ, List, [], false, IsErr, IsTrue};
     ghost use Rattle.pot_outside.specs.Counts.{Caused};
@@ -33,9 +50,9 @@ impl Source for Input {
     } };
 
     fn read(&mut self, into: &mut [u8]) -> Result<usize, Failed> {
-        match self.stream.read(into) {
-            Ok(count) => Ok(count),
-            Err(_) => {
+        match read_some(&mut self.stream, into) {
+            Some(count) => Ok(count),
+            None => {
                 count_fault(&mut self.faults);
                 Err(Failed)
             }
@@ -59,19 +76,23 @@ impl Output {
             faults: 0,
         }
     }
+}
 
-    /// Writes some first bytes, at least one where there is one, or none and counts no fault.
-    fn write_some(&mut self, from: &[u8]) -> Option<usize>
-        ensures within { IfSome result (λ n. n ≤ length from.now) }
-        ensures some { IfSome result (λ n. 0 < length from.now → 0 < n) }
-        ensures faults { self.new.faults ≡ self.old.faults }
-    {
-        match self.stream.write(from) {
-            Ok(0) if !from.is_empty() => None,
-            Ok(count) => Some(count),
-            Err(_) => None,
+/// Writes some first bytes, at least one where there is one, or none. A write that a signal cut
+/// short before its first byte is made again.
+fn write_some(stream: &mut Stdout, from: &[u8]) -> Option<usize>
+    ensures within { IfSome result (λ n. n ≤ length from.now) }
+    ensures some { IfSome result (λ n. 0 < length from.now → 0 < n) }
+{
+    for _ in 0..TRIES {
+        match stream.write(from) {
+            Ok(0) if !from.is_empty() => return None,
+            Ok(count) => return Some(count),
+            Err(e) if e.kind() == ErrorKind::Interrupted => {}
+            Err(_) => return None,
         }
     }
+    None
 }
 
 impl Sink for Output {
@@ -85,7 +106,7 @@ impl Sink for Output {
     } };
 
     fn write(&mut self, from: &[u8]) -> Result<usize, Failed> {
-        match self.write_some(from) {
+        match write_some(&mut self.stream, from) {
             Some(count) => Ok(count),
             None => {
                 count_fault(&mut self.faults);

@@ -1,12 +1,16 @@
+//! Archives in files, and what is told.
+
 use crate::advice::advice_at;
-use crate::desk::DeskFile;
+use crate::archive::FileArchive;
 use crate::folder::Folder;
+use crate::opening::{as_it_is, is_refused, open_apart, to_read};
 use crate::seed::drawn;
 use pot_bytes::Block;
-use pot_outside::{Archive, Desk, DeskFault, Held, Room, RoomFault};
-use std::fs;
-use std::os::unix::fs::{FileExt, symlink};
+use pot_outside::{Archive, Held, Room, RoomFault};
+use std::io::ErrorKind;
+use std::os::unix::fs::symlink;
 use std::test::Fail;
+use std::{fs, io};
 
 #[test]
 fn an_archive_in_a_file(rt: HostRuntime) -> Result<(), Fail> {
@@ -96,130 +100,94 @@ fn an_archive_behind_a_link_that_leads_nowhere_is_not_made(rt: HostRuntime) -> R
     Ok(())
 }
 
-/// What is written to `/dev/null` is taken, and a sync of it fails.
+/// What is written to `/dev/null` is taken, and a sync of it fails: a fault where something was.
 #[test]
-fn an_archive_that_is_not_synced_is_a_fault(rt: HostRuntime) -> Result<(), Fail> {
-    symlink(&rt, "/dev/null", "archive-10")?;
-    let mut room = Folder::new(&rt);
-    let mut archive = room.take(10)?;
+fn a_failed_sync_is_a_fault_of_what_was_written(rt: HostRuntime) -> Result<(), Fail> {
+    for was_written in [false, true] {
+        let file = open_apart(&rt, &as_it_is(false), "/dev/null")?;
+        let mut archive = FileArchive::new(file);
+        if was_written {
+            assert!(rt; archive.write(0, &Block::zero()).is_ok());
+        }
+        assert!(rt;
+            archive.sync().is_ok() != was_written,
+            "written: {was_written}"
+        );
+        assert!(rt; (archive.marks().faults == 0) != was_written);
+    }
+    Ok(())
+}
+
+/// A disk that can only be read: reads go on, and a write is a fault.
+#[test]
+fn an_archive_that_can_only_be_read(rt: HostRuntime) -> Result<(), Fail> {
+    let mut bytes = vec![in rt.alloc(); 0x44u8; 1025]?;
+    bytes[0] = 1;
+    fs::write(&rt, "only-read", &bytes)?;
+    let file = open_apart(&rt, &to_read(), "only-read")?;
+    let mut archive = FileArchive::named(&rt, 12, file, false);
+    let mut into = Block::zero();
+    let held = archive.read(0, &mut into) == Ok(Held::Held);
+    let absent = archive.read(1, &mut into) == Ok(Held::Absent);
+    let before = archive.marks().faults;
     let written = archive.write(0, &Block::zero()).is_ok();
-    let given = room.give(10, archive).is_ok();
-    fs::remove_file(&rt, "archive-10")?;
-    assert!(rt; written && !given);
+    let synced = archive.sync().is_ok();
+    let same = fs::read(&rt, "only-read")?.as_slice() == bytes.as_slice();
+    fs::remove_file(&rt, "only-read")?;
+    assert!(rt; held && absent && !written && synced && same);
+    assert_eq!(rt; (before, archive.marks().faults), (0, 1));
     Ok(())
 }
 
-/// The files of a desk.
-const DESK_FILES: [&str; 3] = ["desk.pss", "desk.psi", "desk.lock"];
-
-fn remove_desk(rt: &HostRuntime) {
-    for name in DESK_FILES {
-        let _ = fs::remove_file(rt, name);
+#[test]
+fn what_refuses_to_be_written_may_be_read(rt: HostRuntime) {
+    let kinds = [
+        (ErrorKind::ReadOnlyFilesystem, true),
+        (ErrorKind::PermissionDenied, true),
+        (ErrorKind::NotFound, false),
+        (ErrorKind::StorageFull, false),
+        (ErrorKind::Interrupted, false),
+    ];
+    for (kind, is_refusal) in kinds {
+        assert!(rt; is_refused(kind) == is_refusal);
     }
 }
 
-/// A new desk, and no file of an earlier one.
-fn new_desk(rt: &HostRuntime) -> DeskFile {
-    remove_desk(rt);
-    DeskFile::new(rt)
-}
-
-/// Whether a desk reads just this image.
-fn has_image(desk: &mut DeskFile, image: &[u8]) -> bool {
-    match desk.read() {
-        Ok(Some(found)) => found.as_slice() == image,
-        _ => false,
+/// So many bytes, of which those at the places of slots are these.
+fn slots_of(rt: &HostRuntime, length: usize, firsts: &[u8]) -> io::Result<Vec<u8>> {
+    let mut bytes = vec![in rt.alloc(); 0x6du8; length]?;
+    for (at, first) in firsts.iter().enumerate() {
+        if let Some(place) = bytes.get_mut(at.saturating_mul(1025)) {
+            *place = *first;
+        }
     }
+    Ok(bytes)
 }
 
+/// A file behind a link is taken where it is empty or most of its slots begin as an archive's do.
 #[test]
-fn an_image_in_a_file(rt: HostRuntime) -> Result<(), Fail> {
-    let mut desk = new_desk(&rt);
-    assert!(rt; desk.read().is_ok_and(|image| image.is_none()));
-    let images: [&[u8]; 4] = [b"first", b"", b"the third image", b"4"];
-    for image in images {
-        assert!(rt; desk.replace(image).is_ok());
-        assert!(rt; has_image(&mut desk, image));
+fn a_link_to_a_file_that_is_no_archive(rt: HostRuntime) -> Result<(), Fail> {
+    let cases: [(usize, &[u8], bool); 9] = [
+        (0, &[], true),
+        (5, &[], false),
+        (1025, &[1], true),
+        (1025, &[0x6d], false),
+        (3075, &[0, 1, 1], true),
+        (3075, &[0, 0x6d, 1], true),
+        (2000, &[1, 1], true),
+        (200_000, &[], false),
+        (200_000, &[1, 1, 0, 0], false),
+    ];
+    for (length, firsts, is_taken) in cases {
+        let bytes = slots_of(&rt, length, firsts)?;
+        fs::write(&rt, "letter", &bytes)?;
+        symlink(&rt, "letter", "archive-13")?;
+        let taken = Folder::new(&rt).take(13).is_ok();
+        let same = fs::read(&rt, "letter")?.as_slice() == bytes.as_slice();
+        fs::remove_file(&rt, "archive-13")?;
+        fs::remove_file(&rt, "letter")?;
+        assert!(rt; same && taken == is_taken, "at {length} bytes");
     }
-    drop(desk);
-    assert!(rt; has_image(&mut DeskFile::new(&rt), b"4"));
-    assert!(rt; fs::read(&rt, "desk.psi").is_err());
-    assert!(rt; fs::read(&rt, "desk.lock")?.is_empty());
-    remove_desk(&rt);
-    Ok(())
-}
-
-#[test]
-fn an_image_of_an_earlier_program(rt: HostRuntime) -> Result<(), Fail> {
-    let mut desk = new_desk(&rt);
-    fs::write(&rt, "desk.psi", "as it was")?;
-    assert!(rt; has_image(&mut desk, b"as it was"));
-    assert!(rt; desk.replace(b"as it is").is_ok());
-    assert!(rt; has_image(&mut desk, b"as it is"));
-    assert!(rt; fs::read(&rt, "desk.psi")?.as_slice() == b"as it was".as_slice());
-    remove_desk(&rt);
-    Ok(())
-}
-
-/// A device has no end that a read would come to.
-#[test]
-fn an_earlier_image_that_is_no_file_is_a_fault(rt: HostRuntime) -> Result<(), Fail> {
-    let mut desk = new_desk(&rt);
-    symlink(&rt, "/dev/zero", "desk.psi")?;
-    let refused = desk.read() == Err(DeskFault::Failed);
-    remove_desk(&rt);
-    assert!(rt; refused);
-    Ok(())
-}
-
-#[test]
-fn a_second_desk_is_refused_until_the_first_is_gone(rt: HostRuntime) -> Result<(), Fail> {
-    let mut first = new_desk(&rt);
-    let mut second = DeskFile::new(&rt);
-    assert!(rt; first.replace(b"of the first").is_ok());
-    assert!(rt; second.read() == Err(DeskFault::Failed));
-    assert!(rt; second.replace(b"of the second").is_err());
-    assert!(rt; has_image(&mut first, b"of the first"));
-    drop(first);
-    assert!(rt; has_image(&mut second, b"of the first"));
-    assert!(rt; second.replace(b"of the second").is_ok());
-    assert!(rt; DeskFile::new(&rt).read() == Err(DeskFault::Failed));
-    remove_desk(&rt);
-    Ok(())
-}
-
-/// `desk.pss` is a folder, is full, or cannot be synced.
-#[test]
-fn an_image_that_is_not_replaced_stays(rt: HostRuntime) -> Result<(), Fail> {
-    let mut desk = new_desk(&rt);
-    fs::write(&rt, "desk.psi", "old")?;
-    fs::create_dir(&rt, "desk.pss")?;
-    let refused = desk.replace(b"new").is_err() && desk.read() == Err(DeskFault::Failed);
-    fs::remove_dir(&rt, "desk.pss")?;
-    assert!(rt; refused);
-    for device in ["/dev/full", "/dev/null"] {
-        symlink(&rt, device, "desk.pss")?;
-        let refused = desk.replace(b"new").is_err();
-        fs::remove_file(&rt, "desk.pss")?;
-        assert!(rt; refused, "at {device}");
-    }
-    assert!(rt; has_image(&mut desk, b"old"));
-    remove_desk(&rt);
-    Ok(())
-}
-
-/// The second image is cut off behind its slot's header, and its gate is still shut.
-#[test]
-fn a_run_that_was_stopped_leaves_the_image_before(rt: HostRuntime) -> Result<(), Fail> {
-    let mut desk = new_desk(&rt);
-    assert!(rt; desk.replace(b"before").is_ok());
-    assert!(rt; desk.replace(b"behind").is_ok());
-    let file = fs::OpenOptions::new().write(true).open(&rt, "desk.pss")?;
-    file.write_all_at(&[0], 1)?;
-    file.set_len(4096 + (1 << 30) + 16)?;
-    drop(file);
-    assert!(rt; has_image(&mut desk, b"before"));
-    remove_desk(&rt);
     Ok(())
 }
 
@@ -249,5 +217,17 @@ fn two_seeds_differ(rt: HostRuntime) -> Result<(), Fail> {
     let first = drawn(&rt)?;
     let second = drawn(&rt)?;
     assert!(rt; first != second);
+    Ok(())
+}
+
+/// A folder and devices, in the place of an archive.
+#[test]
+fn what_is_no_file_is_no_archive(rt: HostRuntime) -> Result<(), Fail> {
+    for target in [".", "/dev/zero", "/dev/null", "/dev/full"] {
+        symlink(&rt, target, "archive-14")?;
+        let taken = Folder::new(&rt).take(14).is_ok();
+        fs::remove_file(&rt, "archive-14")?;
+        assert!(rt; !taken, "{target}");
+    }
     Ok(())
 }
