@@ -37,8 +37,6 @@ mod robust;
 mod robust_closing;
 mod robust_rings;
 mod sets;
-#[cfg(test)]
-mod tests;
 mod top;
 mod window;
 

@@ -1,9 +1,11 @@
 //! How far a recovery reads: which archives and blocks, with which blur, and how archives form
 //! groups.
 
-use crate::shaping::{Fronting, MOST_COLUMNS, MOST_PARITY, SLOT, Shape};
-use crate::surveying::{Survey, open_archive};
-use pots_vault::{MOST_ARCHIVES, Stop, Visit, number_in};
+use crate::shaping::Fronting;
+use pot_remnants::{
+    MOST_ARCHIVES, MOST_COLUMNS, MOST_PARITY, Reading, SLOT, Shape, Survey, open_archive,
+};
+use pots_vault::{Stop, Visit, number_in};
 use std::fs::File;
 use std::os::unix::fs::FileExt;
 
@@ -17,6 +19,24 @@ pub struct Reach {
     pub stripes: u32,
     pub blur: u32,
     pub shape: Option<Shape>,
+}
+
+impl Reach {
+    /// The same, as the archives are read.
+    pub fn reading(self) -> Reading {
+        let Reach {
+            archives,
+            stripes,
+            blur,
+            shape,
+        } = self;
+        Reading {
+            archives,
+            stripes,
+            blur: u8::try_from(blur).unwrap_or(u8::MAX),
+            shape,
+        }
+    }
 }
 
 /// The numbers that are given for a recovery, as texts.

@@ -5,43 +5,18 @@
 //! there. So a list gives no more than was found, and of two lists with one name both files are
 //! written, and neither of them under just that name.
 
-use pot_bytes::{Digest, digest_of};
-use pot_client::PART_SIZE;
+use crate::parts::{
+    Piece, Unjoined, all_bytes, joined, lists_in, parts_of, use_parts, used_bytes, with_digests,
+};
+use crate::reaching::Reach;
+use crate::telling::listed;
+use pot_bytes::Digest;
+use pot_remnants::{Origin, Remains, origins_of};
 use pot_report::{Found, Manifest, digest_text, name_text};
 use pots_vault::{Stop, Visit, put_file};
-use std::alloc::Global;
-
-/// A file that was found, with its digest.
-#[derive(Drop)]
-struct Piece {
-    digest: Digest,
-    found: Found,
-    used: bool,
-}
-
-impl Piece {
-    fn length(&self) -> u64 {
-        match &self.found.bytes {
-            Some(bytes) => bytes.len() as u64,
-            None => 0,
-        }
-    }
-}
 
 /// How many numbers behind a name are tried.
 const TRIES: u32 = 10_000;
-
-/// Why the parts of a list are not joined. Parts count from 1.
-#[derive(Clone, Copy)]
-enum Unjoined {
-    Missing { part: usize },
-    /// It was found, and not as often as the list names it.
-    Repeated { part: usize },
-    /// They do not have the lengths or the digest of the list.
-    Odd,
-    /// They are parts of other files too, and gave as much already as was found.
-    Spent,
-}
 
 /// A file that was written.
 #[derive(Drop)]
@@ -56,22 +31,36 @@ struct Written {
 struct Writing<'a> {
     visit: &'a Visit,
     folder: &'a str,
+    /// From which archives files are, where some are in doubt.
+    origins: Vec<Origin>,
     written: Vec<Written>,
     /// How many bytes of parts may still be written once more.
     again: u64,
 }
 
-/// Writes what was found. Answers whether all of it is whole and nothing is in doubt.
-pub fn write_all(visit: &Visit, folder: &str, found: Vec<Found>) -> Result<bool, Stop> {
+/// Writes what was found in these archives. Answers whether all of it is whole and nothing is in
+/// doubt.
+pub fn write_all(
+    visit: &Visit,
+    folder: &str,
+    found: Vec<Found>,
+    (room, reach): (&Remains, Reach),
+) -> Result<bool, Stop> {
     let mut pieces = with_digests(visit.alloc(), found)?;
+    let lists = lists_in(visit.alloc(), &pieces)?;
+    let origins = if any_doubted(&lists) {
+        origins_of(&visit.rt, room.survey(), reach.reading())?
+    } else {
+        Vec::new(visit.alloc())
+    };
     let mut writing = Writing {
         visit,
         folder,
+        origins,
         written: Vec::new(visit.alloc()),
         again: all_bytes(&pieces),
     };
     let mut good = true;
-    let lists = lists_in(visit.alloc(), &pieces)?;
     for (own, list) in lists.iter() {
         let is_doubted = is_doubted(visit, &lists, own, list);
         if !writing.join((list, own), is_doubted, &mut pieces)? {
@@ -84,6 +73,19 @@ pub fn write_all(visit: &Visit, folder: &str, found: Vec<Found>) -> Result<bool,
         }
     }
     Ok(good)
+}
+
+// Whether several lists have one name.
+fn any_doubted(lists: &[(Digest, Manifest)]) -> bool {
+    for (own, list) in lists.iter() {
+        if lists
+            .iter()
+            .any(|(other, named)| named.name == list.name && *other != *own)
+        {
+            return true;
+        }
+    }
+    false
 }
 
 // Whether several lists have the name of this one, which is told at the first of them.
@@ -106,172 +108,16 @@ fn is_doubted(visit: &Visit, lists: &[(Digest, Manifest)], own: &Digest, list: &
     count > 1
 }
 
-// How many bytes were found.
-fn all_bytes(pieces: &[Piece]) -> u64 {
-    let mut all = 0u64;
-    for piece in pieces.iter() {
-        all = all.saturating_add(piece.length());
-    }
-    all
-}
-
-fn with_digests(alloc: Global, found: Vec<Found>) -> Result<Vec<Piece>, Stop> {
-    let mut pieces = Vec::new(alloc);
-    for found in found {
-        let digest = match &found.bytes {
-            Some(bytes) => digest_of(bytes),
-            None => digest_of(found.id.as_bytes()),
-        };
-        pieces.push(Piece {
-            digest,
-            found,
-            used: false,
-        })?;
-    }
-    Ok(pieces)
-}
-
-// The lists of parts among the files, each with its own digest. One that was split anew is found
-// once for each split, and counts once.
-fn lists_in(alloc: Global, pieces: &[Piece]) -> Result<Vec<(Digest, Manifest)>, Stop> {
-    let mut lists: Vec<(Digest, Manifest)> = Vec::new(alloc);
-    for piece in pieces.iter() {
-        let Some(bytes) = &piece.found.bytes else {
-            continue;
-        };
-        let Some(list) = Manifest::read(alloc, bytes)? else {
-            continue;
-        };
-        if !lists.iter().any(|(own, _)| *own == piece.digest) {
-            lists.push((piece.digest, list))?;
-        }
-    }
-    Ok(lists)
-}
-
-// The places of the parts of a list among what was found, in order, each at most once.
-fn parts_of(
-    alloc: Global,
-    list: &Manifest,
-    pieces: &[Piece],
-) -> Result<Result<Vec<usize>, Unjoined>, Stop> {
-    let mut taken = Vec::new(alloc);
-    for _ in pieces.iter() {
-        taken.push(false)?;
-    }
-    let mut places = Vec::new(alloc);
-    for (before, digest) in list.parts.iter().enumerate() {
-        let part = before.saturating_add(1);
-        match place_of(pieces, &taken, digest) {
-            Place::Free(place) => {
-                if let Some(mark) = taken.get_mut(place) {
-                    *mark = true;
-                }
-                places.push(place)?;
-            }
-            Place::Taken => return Ok(Err(Unjoined::Repeated { part })),
-            Place::Nowhere => return Ok(Err(Unjoined::Missing { part })),
-        }
-    }
-    Ok(Ok(places))
-}
-
-/// Where a part is among what was found.
-#[derive(Clone, Copy)]
-enum Place {
-    Free(usize),
-    Taken,
-    Nowhere,
-}
-
-// Where there is a file with this digest that is not taken.
-fn place_of(pieces: &[Piece], taken: &[bool], digest: &Digest) -> Place {
-    let mut found = Place::Nowhere;
-    for (place, (piece, taken)) in pieces.iter().zip(taken.iter()).enumerate() {
-        if piece.digest == *digest && piece.found.bytes.is_some() {
-            if !*taken {
-                return Place::Free(place);
-            }
-            found = Place::Taken;
-        }
-    }
-    found
-}
-
-// The bytes of the files at these places, one after another, where they are those of the list.
-fn joined(
-    alloc: Global,
-    list: &Manifest,
-    pieces: &[Piece],
-    places: &[usize],
-) -> Result<Option<Vec<u8>>, Stop> {
-    let mut whole = Vec::new(alloc);
-    if !fit(list, pieces, places) {
-        return Ok(None);
-    }
-    for place in places.iter() {
-        if let Some(bytes) = bytes_at(pieces, *place) {
-            whole.extend_from_slice(bytes)?;
-        }
-    }
-    if digest_of(&whole) == list.digest {
-        Ok(Some(whole))
-    } else {
-        Ok(None)
-    }
-}
-
-// Whether the parts have the lengths of a file's that is so long: all but the last are as long as a
-// part may be, and only a file of none has a part of none.
-fn fit(list: &Manifest, pieces: &[Piece], places: &[usize]) -> bool {
-    if list.length == 0 {
-        return match places {
-            [place] => bytes_at(pieces, *place).is_some_and(|bytes| bytes.is_empty()),
-            _ => false,
-        };
-    }
-    let mut left = list.length;
-    for place in places.iter() {
-        let length = match pieces.get(*place) {
-            Some(piece) => piece.length(),
-            None => 0,
-        };
-        if length == 0 || length != left.min(PART_SIZE as u64) {
-            return false;
-        }
-        left = left.saturating_sub(length);
-    }
-    left == 0
-}
-
-fn bytes_at(pieces: &[Piece], place: usize) -> Option<&[u8]> {
-    match &pieces.get(place)?.found.bytes {
-        Some(bytes) => Some(bytes),
-        None => None,
-    }
-}
-
-// How many bytes of these are parts of another file that was joined.
-fn used_bytes(pieces: &[Piece], places: &[usize]) -> u64 {
-    let mut used = 0u64;
-    for place in places.iter() {
-        if let Some(piece) = pieces.get(*place) {
-            if piece.used {
-                used = used.saturating_add(piece.length());
+// Adds the archives that the file of an id is from.
+fn add_origins(numbers: &mut Vec<u32>, origins: &[Origin], id: &str) -> Result<(), Stop> {
+    for origin in origins.iter().filter(|origin| origin.id.as_str() == id) {
+        for number in origin.archives.iter() {
+            if !numbers.contains(number) {
+                numbers.push(*number)?;
             }
         }
     }
-    used
-}
-
-// Marks the parts and the list of a file that was joined. A part that was split anew is found once
-// for each split.
-fn use_parts(list: &Manifest, own: &Digest, pieces: &mut [Piece]) {
-    for piece in pieces.iter_mut() {
-        if piece.digest == *own || list.parts.contains(&piece.digest) {
-            piece.used = true;
-        }
-    }
+    Ok(())
 }
 
 impl<'a> Writing<'a> {
@@ -296,8 +142,33 @@ impl<'a> Writing<'a> {
             return self.tell_unjoined(list, Unjoined::Odd);
         };
         self.again = self.again.saturating_sub(used);
+        if is_doubted {
+            self.tell_origin(list, own, pieces)?;
+        }
         use_parts(list, own, pieces);
         self.write_under(name_text(&list.name), is_doubted, &whole, &list.digest)
+    }
+
+    // Tells from which archives a list and its parts are.
+    fn tell_origin(&self, list: &Manifest, own: &Digest, pieces: &[Piece]) -> Result<(), Stop> {
+        let rt = &self.visit.rt;
+        let alloc = self.visit.alloc();
+        let mut numbers = Vec::new(alloc);
+        for piece in pieces.iter() {
+            if piece.digest == *own || list.parts.contains(&piece.digest) {
+                add_origins(&mut numbers, &self.origins, piece.found.id.as_str())?;
+            }
+        }
+        numbers.sort_unstable();
+        if !numbers.is_empty() {
+            let archives = listed(alloc, &numbers)?;
+            let name = name_text(&list.name);
+            let digest = digest_text(alloc, &list.digest)?;
+            let _ = eprintln!(rt;
+                "pots: the {name} with the SHA-256 digest {digest} is from {archives}"
+            );
+        }
+        Ok(())
     }
 
     fn tell_unjoined(&self, list: &Manifest, why: Unjoined) -> Result<bool, Stop> {

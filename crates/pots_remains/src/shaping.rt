@@ -1,15 +1,11 @@
 //! How archives form groups, as their blocks tell it.
 
-use crate::surveying::{Survey, open_archive};
 use pot_bytes::xor_into;
+use pot_remnants::{MOST_COLUMNS, MOST_PARITY, SLOT, Shape, Survey, open_archive};
 use pots_vault::Visit;
 use std::alloc::AllocError;
 use std::fs::File;
-use std::ops::Range;
 use std::os::unix::fs::FileExt;
-
-/// The bytes of a slot.
-pub const SLOT: u64 = 1025;
 
 /// How many slots of each archive are looked at, from the first on.
 const LOOKED: u32 = 32;
@@ -17,72 +13,17 @@ const LOOKED: u32 = 32;
 /// How many bytes of a block are looked at.
 const FRONT: usize = 64;
 
-/// The most data archives of a group.
-pub const MOST_COLUMNS: u32 = 16;
-
-/// The most parity archives of a group.
-pub const MOST_PARITY: u32 = 2;
-
 /// How much a stripe counts whose blocks are all there and fit its parity.
 const FITS: i64 = 4;
 
 /// How much a stripe counts whose blocks do not fit its parity.
 const MISFITS: i64 = -4;
 
-/// The data and the parity archives of a group. Group g begins with the archive whose number is g
-/// times as many, and its data archives come first.
-#[derive(Clone, Copy, Debug, PartialEq, Eq)]
-pub struct Shape {
-    pub columns: u32,
-    pub parity: u32,
-}
-
 /// The shape of groups where nobody asks for another.
 const USUAL: Shape = Shape {
     columns: 3,
     parity: 1,
 };
-
-impl Shape {
-    fn width(self) -> u32 {
-        self.columns.saturating_add(self.parity)
-    }
-
-    // The column of an archive in its group.
-    fn column(self, number: u32) -> u32 {
-        number % self.width().max(1)
-    }
-
-    // The first archive of the group that this one is of.
-    fn first(self, number: u32) -> u32 {
-        number.saturating_sub(self.column(number))
-    }
-
-    /// Whether an archive has data, and not parity.
-    pub fn is_data(self, number: u32) -> bool {
-        self.column(number) < self.columns
-    }
-
-    /// The data archives of the group that this one is of.
-    pub fn data_of(self, number: u32) -> Range<u32> {
-        let first = self.first(number);
-        first..first.saturating_add(self.columns)
-    }
-
-    /// The first parity archive of the group that this one is of.
-    pub fn parity_of(self, number: u32) -> u32 {
-        self.first(number).saturating_add(self.columns)
-    }
-
-    /// Whether the blocks of a data archive can be made anew from the others of its group: from the
-    /// first parity archive and all other data archives. One that is empty holds no block.
-    pub fn gives(self, survey: &Survey, number: u32) -> bool {
-        let others = self
-            .data_of(number)
-            .all(|other| other == number || survey.state(other).is_known());
-        self.is_data(number) && survey.state(self.parity_of(number)).is_there() && others
-    }
-}
 
 type Front = [u8; FRONT];
 

@@ -1,9 +1,7 @@
 //! What is told of the archives that a recovery reads.
 
 use crate::reaching::Reach;
-use crate::remains::{Remains, Tally};
-use crate::shaping::Shape;
-use crate::surveying::{State, Survey};
+use pot_remnants::{Remains, Shape, State, Survey, Tally};
 use pots_vault::{Stop, Visit, archive_name, named};
 use std::alloc::Global;
 use std::fs;
@@ -45,13 +43,7 @@ fn is_borne(
             return Ok(true);
         }
         if shape.gives(survey, number) {
-            tell_made(
-                visit,
-                text.as_str(),
-                state,
-                shape.data_of(number).start,
-                shape,
-            );
+            tell_made(visit, text.as_str(), state, shape, number);
             return Ok(true);
         }
     }
@@ -68,7 +60,7 @@ fn is_link(visit: &Visit, number: u32) -> Result<bool, Stop> {
 }
 
 // Archives by their ascending numbers, as archives 4, 5 and 8 to 11 are written: 4,5,8-11.
-fn listed(alloc: Global, numbers: &[u32]) -> Result<String, Stop> {
+pub fn listed(alloc: Global, numbers: &[u32]) -> Result<String, Stop> {
     let mut text = String::from_str(alloc, "archives ")?;
     let mut run: Option<(u32, u32)> = None;
     for number in numbers.iter() {
@@ -99,10 +91,11 @@ fn append_run(alloc: Global, text: &mut String, run: (u32, u32)) -> Result<(), S
     Ok(())
 }
 
-fn tell_made(visit: &Visit, text: &str, state: State, first: u32, shape: Shape) {
+fn tell_made(visit: &Visit, text: &str, state: State, shape: Shape, number: u32) {
     let rt = &visit.rt;
     let reason = state.reason();
-    let last = first.saturating_add(shape.columns);
+    let first = shape.group_of(number).start;
+    let last = first.saturating_add(shape.width()).saturating_sub(1);
     let _ = eprintln!(rt;
         "pots: {text} {reason}: its blocks are made anew from the others of archives {first} to {last}"
     );
@@ -113,7 +106,7 @@ fn tell_advice(visit: &Visit, shape: Option<Shape>) {
     let rt = &visit.rt;
     let _ = match shape {
         Some(Shape { columns, parity }) => eprintln!(rt;
-            "pots: groups have {columns} data and {parity} parity archives here, and of one data archive of a group the others and the first parity archive give the blocks: see that all disks are mounted, give an archive that pots replace or pots migrate brought the number of the old one, as by mv archive-12 archive-4, and give the command once more; files of which a shard is missed are not found"
+            "pots: groups have {columns} data and {parity} parity archives here, and of one data archive of a group the others and the first parity archive give the blocks, and of two the others and both parity archives: see that all disks are mounted, give an archive that pots replace or pots migrate brought the number of the old one, as by mv archive-12 archive-4, and give the command once more; files of which a shard is missed are not found"
         ),
         None => eprintln!(rt;
             "pots: how many data and parity archives a group has was not seen: see that all disks are mounted; with --columns and --parity, as pots init told them, the blocks of one archive of each group are made anew"

@@ -1,18 +1,19 @@
 //! The program: it draws a seed, makes the real objects and calls `run` with them, once. For the
-//! word `recheck` alone it calls `recheck` in place of `run`, and draws no seed.
+//! word `recheck` alone it calls `recheck` in place of `run`, and draws no seed. For `recover` with
+//! `--columns` it calls `run` over a room in which blocks that are gone are made anew.
 //!
-//! Nothing is decided here but which of the two is called, and the status where no seed or no
-//! memory for the words is had. What a call does is the contract of `run` or of `recheck`, and what
+//! Nothing is decided here but which of these is called, and the status where no seed or no memory
+//! for the words is had. What a call does is the contract of `run` or of `recheck`, and what
 //! the real objects promise that of their own types.
 #![tactic(auto)]
 
 mod rechecking;
-#[cfg(test)]
-mod session_tests;
+mod recovering;
 
 use pot_files::{DeskFile, Folder, Input, NoGate, Output, advice_at, drawn};
 use pot_session::run;
 use rechecking::{is_recheck, recheck_desk};
+use recovering::{recover, recovery_in};
 use std::env;
 use std::io::ErrorKind;
 use std::process::ExitCode;
@@ -43,7 +44,11 @@ fn answer<X: Threads + Wait + Sync>(rt: &HostRuntime, turns: &X) -> u8 {
     if is_recheck(&words) {
         return recheck_desk(rt);
     }
-    session(rt, turns, &words)
+    match recovery_in(rt.alloc(), &words) {
+        Ok(Some(recovery)) => recover(rt, turns, recovery),
+        Ok(None) => session(rt, turns, &words),
+        Err(_) => NO_MEMORY,
+    }
 }
 
 /// One call on the real objects, and its exit status.

@@ -1,10 +1,15 @@
-//! What is left of the archives of a folder.
+//! How the files of archives are found.
 
-use pots_vault::{MOST_ARCHIVES, Stop, Visit, archive_name, open_to_read};
-use std::alloc::Global;
+use std::alloc::{AllocError, Global};
 use std::fs;
 use std::fs::{File, Metadata};
 use std::io::ErrorKind;
+
+/// One more than the greatest number of an archive.
+pub const MOST_ARCHIVES: u32 = 512;
+
+/// The bytes of a slot.
+pub const SLOT: u64 = 1025;
 
 /// How the file of an archive is found.
 #[derive(Clone, Copy, Debug, PartialEq, Eq)]
@@ -15,7 +20,7 @@ pub enum State {
     Empty,
     /// It cannot be opened, or is no file.
     Closed,
-    /// The command was asked to leave it out.
+    /// It was asked to be left out.
     LeftOut,
 }
 
@@ -49,11 +54,11 @@ pub struct Survey {
 }
 
 impl Survey {
-    /// Looks at the files of all numbers.
-    pub fn of(visit: &Visit) -> Result<Survey, Stop> {
-        let mut states = Vec::new(visit.alloc());
+    /// Looks at the files of all numbers, but for those that are left out.
+    pub fn of(rt: &HostRuntime, without: &[u32]) -> Result<Survey, AllocError> {
+        let mut states = Vec::new(rt.alloc());
         for number in 0..MOST_ARCHIVES {
-            states.push(state_of(visit, number)?)?;
+            states.push(state_of(rt, without, number)?)?;
         }
         Ok(Survey { states })
     }
@@ -67,7 +72,7 @@ impl Survey {
     }
 
     /// The numbers below a bound of which no block can be read, each with the reason.
-    pub fn gone(&self, alloc: Global, bound: u32) -> Result<Vec<(u32, State)>, Stop> {
+    pub fn gone(&self, alloc: Global, bound: u32) -> Result<Vec<(u32, State)>, AllocError> {
         let mut gone = Vec::new(alloc);
         for number in 0..bound {
             let state = self.state(number);
@@ -101,20 +106,19 @@ impl Survey {
     }
 }
 
-fn state_of(visit: &Visit, number: u32) -> Result<State, Stop> {
-    let name = archive_name(visit.alloc(), number)?;
+fn state_of(rt: &HostRuntime, without: &[u32], number: u32) -> Result<State, AllocError> {
+    let name = format!(in rt.alloc(); "archive-{number}")?;
     let name = name.as_str();
-    Ok(match fs::metadata(&visit.rt, name) {
-        Ok(file) => state_by(visit, number, name, &file),
+    Ok(match fs::metadata(rt, name) {
+        Ok(_) if without.contains(&number) => State::LeftOut,
+        Ok(file) => state_by(rt, name, &file),
         Err(e) if e.kind() == ErrorKind::NotFound => State::Missing,
         Err(_) => State::Closed,
     })
 }
 
-fn state_by(visit: &Visit, number: u32, name: &str, file: &Metadata) -> State {
-    if visit.without.contains(&number) {
-        State::LeftOut
-    } else if !file.is_file() || fs::open(&visit.rt, name).is_err() {
+fn state_by(rt: &HostRuntime, name: &str, file: &Metadata) -> State {
+    if !file.is_file() || fs::open(rt, name).is_err() {
         State::Closed
     } else if file.len() == 0 {
         State::Empty
@@ -125,6 +129,6 @@ fn state_by(visit: &Visit, number: u32, name: &str, file: &Metadata) -> State {
 
 /// The file of an archive that is there, opened to be read alone.
 pub fn open_archive(rt: &HostRuntime, number: u32) -> Option<File> {
-    let name = archive_name(rt.alloc(), number).ok()?;
-    open_to_read(rt, name.as_str())
+    let name = format!(in rt.alloc(); "archive-{number}").ok()?;
+    fs::open(rt, name.as_str()).ok()
 }
