@@ -54,7 +54,7 @@ are_veils random = record { count = refl; each = each }
 are_hidden : AreHidden (the_veil ∷ [])
 are_hidden = All-cons (λ (v : Veil). v.have < v.need) the_veil [] one (All-nil (λ (v : Veil). v.have < v.need))
 
-other_bytes : AreBytes other_file
+pub other_bytes : AreBytes other_file
 other_bytes zero = omega arith
 other_bytes (suc k) = omega arith
 

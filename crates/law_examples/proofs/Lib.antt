@@ -2,3 +2,5 @@ pub mod Seeing
 pub mod Storing
 pub mod Hiding
 pub mod Keeping
+pub mod Stepping
+pub mod Onward

@@ -37,7 +37,7 @@ one_two = omega arith
 abbrev pub block : List ℕ → ℕ → List ℕ
 block random j = block_in geometry file random 0 j 0
 
-two_blocks : PlaceLaws → (random : List ℕ) → length (file_blocks geometry file random) ≡ 2
+pub two_blocks : PlaceLaws → (random : List ℕ) → length (file_blocks geometry file random) ≡ 2
 two_blocks laws random = laws.count geometry file random
 
 pub block_0 : PlaceLaws → (random : List ℕ) → slice_get (file_blocks geometry file random) 0 ≡ Some (block random 0)
@@ -48,7 +48,7 @@ block_1 laws random = laws.each geometry file random 0 1 0 one (omega arith) one
 
 -- THE STEPS OF THE STORE
 
-put_goes : (u : UnderWay) (b : List ℕ) (rest : List Step) (w v : World) → (w.actors 1).under_way ≡ Some u → next_block u ≡ Some b → length u.places < length (blocks_of u) → Runs rest (put_block 1 u (Some b) w) v → Runs (step.PutNext 1 ∷ rest) w v
+pub put_goes : (u : UnderWay) (b : List ℕ) (rest : List Step) (w v : World) → (w.actors 1).under_way ≡ Some u → next_block u ≡ Some b → length u.places < length (blocks_of u) → Runs rest (put_block 1 u (Some b) w) v → Runs (step.PutNext 1 ∷ rest) w v
 unfolding Runs
 put_goes u b rest w v e f lt r = (
   subst (λ (o : Option UnderWay). IsSomeAnd o (λ u. length u.places < length (blocks_of u))) (sym e) lt,
@@ -80,7 +80,7 @@ pub second_way : (random : List ℕ) → ((half_world random).actors 1).under_wa
 unfolding put_within least count at_group first_groups
 second_way random = refl
 
-third_way : (random : List ℕ) → ((put_block 1 (half_way random) (Some (block random 1)) (half_world random)).actors 1).under_way ≡ Some (whole random)
+pub third_way : (random : List ℕ) → ((put_block 1 (half_way random) (Some (block random 1)) (half_world random)).actors 1).under_way ≡ Some (whole random)
 unfolding put_within least count at_group first_groups
 third_way random = refl
 
@@ -98,10 +98,10 @@ store_goes laws random is rest v r = (
 
 -- THE PLACES
 
-abbrev lost_world : List ℕ → World
+abbrev pub lost_world : List ℕ → World
 lost_world random = made (step.Lose 0 0) (stored_world random)
 
-lost_run : PlaceLaws → (random : List ℕ) → IsStore geometry file random → Runs (loses random) (first_world rack) (lost_world random)
+pub lost_run : PlaceLaws → (random : List ℕ) → IsStore geometry file random → Runs (loses random) (first_world rack) (lost_world random)
 unfolding Runs
 lost_run laws random is = store_goes laws random is (step.Lose 0 0 ∷ []) (lost_world random) (tt, refl)
 
@@ -123,7 +123,7 @@ written laws law random is =
 
 -- THE LOST BLOCK
 
-fixed_after : (n : ℕ) (blind : List ℕ) (g : WorldGroup) → IsBlock blind → FixedIn n 0 0 g → (m : ℕ) × (m ≤ n) × (sound_block (mended m blind g) 0 0 ≡ Some ((mended m blind g).written 0 0))
+pub fixed_after : (n : ℕ) (blind : List ℕ) (g : WorldGroup) → IsBlock blind → FixedIn n 0 0 g → (m : ℕ) × (m ≤ n) × (sound_block (mended m blind g) 0 0 ≡ Some ((mended m blind g).written 0 0))
 unfolding FixedIn
 fixed_after zero blind g is f = (0, omega arith, f)
 fixed_after (suc n) blind g is f =

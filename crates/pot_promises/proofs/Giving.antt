@@ -24,7 +24,7 @@ use Rattle.pot_script.specs.declared.reply.Reply.TheVariants as replies
 use Rattle.pot_image.specs.Images.{Contents}
 use Rattle.pot_image.specs.Rules.{FitsTogether}
 use Rattle.pot_replies.specs.Digests.{NoTwoAlike}
-use Rattle.pot_replies.specs.Fetches.{Found}
+use Rattle.pot_replies.specs.Fetches.{FoundThen}
 use Rattle.pot_replies.specs.Sections.{Section, MovesThenRest, mine, names_after, work_of}
 use Rattle.pot_replies.specs.Settings.{Setting}
 use Rattle.pot_replies.specs.Stores.{IsStored}
@@ -49,18 +49,25 @@ pub record IsMet (rack : Rack) (m : Names) (log : List Logged) (name : List ℕ)
   pub to : Replays rack m log now
   pub is : IsRecordOf now name kept
 
-module _ (s : Setting) where
+module _ (s : Setting) {behind : List Logged} where
+  -- a log is parted where the record was found
+  pub found_at : (w one : Section) (h : MovesThenRest one) (job : ℕ) (name : List ℕ) (kept : Record) (cut : IsCut one w) (found : FoundThen behind s job name kept (work_of one h))
+      → w.index_added ≡ (cut.index_earlier ++ found.sofar) ++ ((plain (Find job name true) ∷ found.later) ++ cut.index_later)
+  found_at w one h job name kept cut found =
+      let front : List Logged = cut.index_earlier ++ found.sofar in
+      let back : List Logged = (plain (Find job name true) ∷ found.later) ++ cut.index_later in
+      cut.index_added
+      ∙ (ap (λ l. cut.index_earlier ++ (l ++ cut.index_later)) found.at
+      ∙ (ap (λ l. cut.index_earlier ++ l) (append_assoc found.sofar (plain (Find job name true) ∷ found.later) cut.index_later)
+      ∙ sym (append_assoc cut.index_earlier found.sofar back)))
+
   -- the record that was found is that of the name, by the log up to then
-  pub transition : (w one : Section) (h : MovesThenRest one) (job : ℕ) (name : List ℕ) (kept : Record) (m n : Names) (cut : IsCut one w) (found : Found s job name kept (work_of one h))
+  pub transition : (w one : Section) (h : MovesThenRest one) (job : ℕ) (name : List ℕ) (kept : Record) (m n : Names) (cut : IsCut one w) (found : FoundThen behind s job name kept (work_of one h))
       → names_after (names_read s.read) w.index_before ≡ m → Replays s.rack m w.index_added n → IsMet s.rack m (cut.index_earlier ++ found.sofar) name kept
   transition w one h job name kept m n cut found at rep =
       let front : List Logged = cut.index_earlier ++ found.sofar in
       let back : List Logged = (plain (Find job name true) ∷ found.later) ++ cut.index_later in
-      let parted : w.index_added ≡ front ++ back =
-      cut.index_added
-      ∙ (ap (λ l. cut.index_earlier ++ (l ++ cut.index_later)) found.at
-      ∙ (ap (λ l. cut.index_earlier ++ l) (append_assoc found.sofar (plain (Find job name true) ∷ found.later) cut.index_later)
-      ∙ sym (append_assoc cut.index_earlier found.sofar back))) in
+      let parted : w.index_added ≡ front ++ back = found_at w one h job name kept cut found in
       let parts = went_on s.rack m n front back (subst (λ l. Replays s.rack m l n) parted rep) in
       let log : one.index_before ++ found.sofar ≡ w.index_before ++ front =
       ap (λ l. l ++ found.sofar) cut.index_before ∙ append_assoc w.index_before cut.index_earlier found.sofar in
@@ -70,6 +77,7 @@ module _ (s : Setting) where
       ∙ (ap (λ x. names_after x front) at ∙ names_to s.rack m parts.0 front parts.1)) in
       record { now = parts.0; to = parts.1; is = subst (λ x. IsRecordOf x name kept) to found.published }
 
+module _ (s : Setting) where
   -- the record of a store was published in the section of its step
   pub published_in : (job : ℕ) (name file : List ℕ) (pieces shards : ℕ) (one : Section) (h : MovesThenRest one) (stored : IsStored s job name file pieces shards (mine job (work_of one h)))
       → Contains one.index_added (bringing (Publish job name (mark_of stored.kept)) stored.kept)

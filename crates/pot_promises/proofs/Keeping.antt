@@ -4,7 +4,7 @@ use Rattle.std.specs.Prelude.{Contains}
 use Rattle.pot_bytes.specs.declared.digest.Digest.{Digest}
 use Rattle.pot_bytes.specs.declared.rack.Rack.{Rack}
 use Rattle.pot_bytes.proofs.Elements.{contains_back, contains_later, parted_at}
-use Rattle.pot_index.specs.declared.entry.IndexEntry.TheVariants.{Publish}
+use Rattle.pot_index.specs.declared.entry.IndexEntry.TheVariants.{Publish, Renew}
 use Rattle.pot_index.specs.declared.entry.Logged.{Logged}
 use Rattle.pot_index.specs.declared.record.Record.{Record}
 use Rattle.pot_index.specs.Entries.{bringing}
@@ -13,7 +13,8 @@ use Rattle.pot_index.specs.Index.{Names, IsRecordOf, AreNames, Replays, after}
 use Rattle.pot_index.specs.Laws.{GoesOn}
 use Rattle.pot_index.proofs.NamesKept.{replay_keeps, went_on, after_keeps}
 use Rattle.pot_index.proofs.RecordLaws.{one_record, records_stay, splits_stay}
-use Rattle.pot_index.proofs.RecordLemmas.{inserted_has}
+use Rattle.pot_index.proofs.NameLemmas.{contains_map}
+use Rattle.pot_index.proofs.RecordLemmas.{inserted_has, record_names, replaced_has}
 use Rattle.pot_promises.proofs.Quiet.{Quiet, all_quiet}
 
 -- a record of this name and this digest is published
@@ -40,6 +41,23 @@ published_goes rack n m log job name mark kept a rep there =
     let at : AreNames rack k = replay_keeps rack n k cut.0 a parts.1 in
     let o = splits_stay rack (after k x) m cut.1 kept (after_keeps rack k x at legal) parts.2.1 (inserted_has kept k.published) in
     (o.0, o.1, o.2, legal.0, legal.3)
+
+-- so does one that an entry brought which renewed it
+pub renewed_goes : (rack : Rack) (n m : Names) (log : List Logged) (job : ℕ) (name : List ℕ) (mark : Digest) (now : Record) → AreNames rack n → Replays rack n log m
+    → Contains log (bringing (Renew job name mark) now) → (o : Record) × Contains m.published o × GoesOn now o × FitsRack rack now
+renewed_goes rack n m log job name mark now a rep there =
+    let x : Logged = bringing (Renew job name mark) now in
+    let cut = parted_at log x there in
+    let parts = went_on rack n m cut.0 (x ∷ cut.1) (subst (λ l. Replays rack n l m) cut.2 rep) in
+    let k : Names = parts.0 in
+    let legal = parts.2.0 in
+    let old = legal.2 in
+    let at : AreNames rack k = replay_keeps rack n k cut.0 a parts.1 in
+    let named : now.name ≡ old.0.name = ap (λ (r : Record). r.name) old.2 in
+    let has : Contains (after k x).published now =
+    replaced_has now k.published (subst (λ l. Contains (record_names k.published) l) (sym named) (contains_map (λ (r : Record). r.name) old.0 k.published old.1.0)) in
+    let o = splits_stay rack (after k x) m cut.1 now (after_keeps rack k x at legal) parts.2.1 has in
+    (o.0, o.1, o.2, legal.1)
 
 -- and stays as it is where no entry renews its name
 pub published_stays : (rack : Rack) (n m : Names) (log : List Logged) (job : ℕ) (name : List ℕ) (mark : Digest) (kept : Record) → AreNames rack n → Replays rack n log m

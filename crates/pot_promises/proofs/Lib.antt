@@ -10,6 +10,7 @@ pub mod Keeping
 pub mod Losing
 pub mod Odds
 pub mod OddsLater
+pub mod OddsMade
 pub mod OwnGroups
 pub mod Quiet
 pub mod Rechecking

@@ -255,6 +255,8 @@ module _ (seed : List ℕ) (first last : Contents) (ss : List Step) (rs : List R
     pub replays : Replays t log (replayed t log)
     pub live : slot_at (replayed t log) s c ≡ Live d
     pub before : (e : Entry) → Contains (two.before g) e → Contains log e
+    pub rest : List Entry
+    pub whole : session.story.before g ++ session.story.added g ≡ log ++ rest
 
   pub saw_in : (job g s c : ℕ) (d : Digest) (t : Table) → slice_get first.tables g ≡ Some t
       → SeenAs ((setting_of seed first).first g) job ((work_of two halves).before g) ((work_of two halves).added g) s c d → SawIn t g s c d
@@ -275,6 +277,8 @@ module _ (seed : List ℕ) (first last : Contents) (ss : List Step) (rs : List R
         replays = front_replays t log rest leads.0 (subst (λ l. Replays t l leads.0) whole leads.1);
         live = subst (λ f. slot_at (replayed f log) s c ≡ Live d) same live;
         before = λ e has. Contains-append_left (two.before g ++ halves.begun g) front e (Contains-append_left (two.before g) (halves.begun g) e has);
+        rest = rest;
+        whole = whole;
       }
 
 module _ (seed : List ℕ) (first last : Contents) (ss : List Step) (rs : List Reply) (session : IsSession seed first last ss rs) (p i : ℕ)

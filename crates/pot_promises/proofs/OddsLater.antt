@@ -49,11 +49,11 @@ use Rattle.pot_promises.proofs.Walking.{IsCut, behind_at, cut_at}
 
 -- A DATA SLOT KEEPS ITS DIGEST
 
-columns_along : (t : Table) (log : List Entry) (u : Table) (c : ℕ) → Replays t log u → c < t.data_columns → c < u.data_columns
+pub columns_along : (t : Table) (log : List Entry) (u : Table) (c : ℕ) → Replays t log u → c < t.data_columns → c < u.data_columns
 columns_along t [] u c same lt = subst (λ (x : Table). c < x.data_columns) (sym same) lt
 columns_along t (e ∷ log) u c (legal, rest) lt = columns_along (after t e) log u c rest (let size = (sizes_stay t e).0 in omega (arith, lt, size))
 
-digest_along : (t : Table) (log : List Entry) (u : Table) (s c : ℕ) (d : Digest) → IsTable t → Replays t log u → c < t.data_columns → digest_in (slot_at t s c) ≡ Some d
+pub digest_along : (t : Table) (log : List Entry) (u : Table) (s c : ℕ) (d : Digest) → IsTable t → Replays t log u → c < t.data_columns → digest_in (slot_at t s c) ≡ Some d
     → digest_in (slot_at u s c) ≡ Some d
 digest_along t [] u s c d is same lt has = ap (λ x. digest_in (slot_at x s c)) same ∙ has
 digest_along t (e ∷ log) u s c d is (legal, rest) lt has =
@@ -63,7 +63,7 @@ digest_along t (e ∷ log) u s c d is (legal, rest) lt has =
 
 -- RECORDS THAT GO ON
 
-goes_further : (r o q : Record) → GoesOn r o → GoesOn o q → GoesOn r q
+pub goes_further : (r o q : Record) → GoesOn r o → GoesOn o q → GoesOn r q
 goes_further r o q a b = record {
   name = b.name ∙ a.name;
   long = b.long ∙ a.long;
@@ -92,23 +92,23 @@ never_renewed r o goes one still =
 -- WHAT AN IMAGE CARRIES OF A STORE
 
 -- the slot of a block that was put, by the tables of an image
-record HasSlot (v : Contents) (x : Placed) : Type 0 where
-  t : Table
-  there : slice_get v.tables x.group ≡ Some t
-  digest : digest_in (slot_at t x.stripe x.column) ≡ Some x.digest
-  column : x.column < t.data_columns
+pub record HasSlot (v : Contents) (x : Placed) : Type 0 where
+  pub t : Table
+  pub there : slice_get v.tables x.group ≡ Some t
+  pub digest : digest_in (slot_at t x.stripe x.column) ≡ Some x.digest
+  pub column : x.column < t.data_columns
 
 -- the record, which may have gone on, and the slots of its blocks with their digests
-record Carries (kept : Record) (placed : List Placed) (v : Contents) : Type 0 where
-  names : AreNames v.rack (names_of v)
-  its : Record
-  has : Contains v.records its
-  goes : GoesOn kept its
-  slots : (b : ℕ) (x : Placed) → slice_get placed b ≡ Some x → HasSlot v x
+pub record Carries (kept : Record) (placed : List Placed) (v : Contents) : Type 0 where
+  pub names : AreNames v.rack (names_of v)
+  pub its : Record
+  pub has : Contains v.records its
+  pub goes : GoesOn kept its
+  pub slots : (b : ℕ) (x : Placed) → slice_get placed b ≡ Some x → HasSlot v x
 
 module _ (kept : Record) (placed : List Placed) where
   -- the image with which the next session begins
-  begins_carries : (left first : Contents) → Begins left first → Carries kept placed left → Carries kept placed first
+  pub begins_carries : (left first : Contents) → Begins left first → Carries kept placed left → Carries kept placed first
   begins_carries left first begins c = record {
     names = begins_names left first begins c.names;
     its = c.its;
@@ -172,7 +172,7 @@ module _ (kept : Record) (placed : List Placed) where
             column = (let same = columns_stay again.found g s.t u.0 its in let lt = s.column in omega (arith, same, lt));
           }
 
-  later_carries : (from left : Contents) → Carries kept placed from → Later from left → Carries kept placed left
+  pub later_carries : (from left : Contents) → Carries kept placed from → Later from left → Carries kept placed left
   later_carries from left c Same = c
   later_carries from left c (Begun {left = before} sofar begins) = begins_carries before left begins (later_carries from before c sofar)
   later_carries from left c (More {left = before} {first} sofar begins leaves) =

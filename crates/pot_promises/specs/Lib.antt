@@ -8,6 +8,7 @@ pub mod Odds
 pub mod Openings
 pub mod Promises
 pub mod Remaining
+pub mod Renewed
 pub mod Runs
 pub mod Stretches
 pub mod Veils

@@ -27,6 +27,8 @@
 //!    of each piece, sees what every other file of that length gives as well (`veil_laws`).
 //! 5. No later fetch of its name is odd by blocks of which, with the file's own, no two different
 //!    ones have one digest, in its session or in a later one, until the name is renewed (`odd_laws`).
+//!    So it is of a fetch in the same batch (`together`). So it is of one that found the split of a
+//!    renewal, with the blocks of that split (`renewed`, `renewed_later`).
 //! 6. A reply `fault` of a column comes only where an archive of that column counted a fault in the
 //!    session (`fault_laws`).
 //! 7. Where no archive lost a block in the session, a fetch or a renewal is answered `lost` only
@@ -63,6 +65,8 @@ ghost use Rattle.pot_promises.specs.Odds.{NeverOdd, NeverOddLater, OddReads};
 ghost use Rattle.pot_promises.specs.Openings.{OpeningsAreTrue};
 ghost use Rattle.pot_promises.specs.Promises.{GivesBack, GivesBackLater};
 ghost use Rattle.pot_promises.specs.Remaining.{BlocksRemain, OlderDeskFinds, ServedRemain};
+ghost use Rattle.pot_promises.specs.Renewed.{NeverOddRenewed, NeverOddRenewedLater};
+ghost use Rattle.pot_promises.specs.Renewed.{NeverOddTogether, RenewedShows};
 ghost use Rattle.pot_promises.specs.Runs.{CarefulKeeps, DesksStayGood, NeverRefused, RechecksBegin};
 ghost use Rattle.pot_promises.specs.Runs.{RechecksGoOn, RunsAreSessions, RunsGoLater, RunsGoOn};
 ghost use Rattle.pot_promises.specs.Runs.{RunsMayClose};
@@ -126,11 +130,16 @@ pub fn veil_laws()
     ensures stays_veiled { StaysVeiled }
 {}
 
-/// By which blocks a fetch is odd, and by which none of a stored file is. It does nothing.
+/// By which blocks a fetch is odd, and by which none of a stored or a renewed file is. It does
+/// nothing.
 pub fn odd_laws()
     ensures odd_reads { OddReads }
     ensures never_odd { NeverOdd }
     ensures never_odd_later { NeverOddLater }
+    ensures together { NeverOddTogether }
+    ensures renewed_shows { RenewedShows }
+    ensures renewed { NeverOddRenewed }
+    ensures renewed_later { NeverOddRenewedLater }
 {}
 
 /// What the words that hold no session answer, each by its cause. It does nothing.

@@ -221,7 +221,7 @@ module _ (c : ClosedSession) (more : List ClosedSession) (chain : AreInARow c mo
       its_placed = element_of_map place_of its.placed b q (ap (λ ps. slice_get ps b) (sym its.is_record.places) ∙ at)
 
       group_at : (h : WorldGroup) × (slice_get z.groups q.group ≡ Some h)
-      group_at = element_at z.groups q.group (let lt = in_groups in let a = r.world.as_left.count in let e = ap (λ (k : Rack). k.groups) r.reached.same_rack in omega (arith, lt, a, e))
+      group_at = element_at z.groups q.group (let lt = in_groups in let a = r.last.count in let e = ap (λ (k : Rack). k.groups) r.reached.same_rack in omega (arith, lt, a, e))
 
       of_last : (t : Table) × (slice_get l.last.tables q.group ≡ Some t)
       of_last = element_at l.last.tables q.group
@@ -271,7 +271,7 @@ module _ (c : ClosedSession) (more : List ClosedSession) (chain : AreInARow c mo
           let h : WorldGroup = group_at.0 in
           let own_has = has_own d q.group (read_there d q.group of_its.0 of_its.1).0 of_its.0 its_log entry_at.0 q.stripe q.column its_placed.0.digest its_group entry_at.1 entry_at.2 in
           let has = has_from [] c more d q.group q.stripe q.column its_placed.0.digest chain.go_on in_chain own_has of_last.0 of_last.1 in
-          let is : of_last.0 ≡ still h.state.table = (r.world.as_left.each q.group (read_there l q.group of_last.0 of_last.1).0 of_last.0 (log_there l q.group of_last.0 of_last.1).0 h last_group group_at.1).is in
+          let is : of_last.0 ≡ still h.state.table = (r.last.each q.group (read_there l q.group of_last.0 of_last.1).0 of_last.0 (log_there l q.group of_last.0 of_last.1).0 h last_group group_at.1).is in
           placed_in q.group q.stripe q.column stands z.groups h group_at.1 (record {
             stripe = subst (λ (t : Table). q.stripe < t.stripes) is has.0;
             column = subst (λ (t : Table). q.column < t.data_columns) is has.1;

@@ -26,7 +26,7 @@ use Rattle.pot_world.proofs.Later.{first_reopened}
 use Rattle.pot_refinement.specs.Refinement.{AllWentWell, AreNew, IsEmpty, SimulateNew, Simulates, all_ran, is_clean, used_by_each, used_since}
 use Rattle.pot_refinement.proofs.Ended.{all_used, all_well, first_session}
 use Rattle.pot_refinement.proofs.Executions.{makes, site}
-use Rattle.pot_theorem.specs.Worlds.{AreAsLeft, IsGroupOf, IsInWorld, RunsReach, IsAsLeft, had_with}
+use Rattle.pot_theorem.specs.Worlds.{AllAsLeft, AreAsLeft, IsGroupOf, IsInWorld, RunsReach, IsAsLeft, had_with}
 use Rattle.pot_theorem.specs.Sessions.{ClosedSession, AllSucceed, Succeeds, AreInARow, IsFirst, IsUndisturbed, new_archives, last_session, many_archives, first_archives}
 use Rattle.pot_theorem.proofs.Between.{go_all}
 use Rattle.pot_theorem.proofs.Chaining.{HasColumns, all_begun, all_of}
@@ -167,31 +167,6 @@ next_reach rack earlier c d x reached goes u =
       };
     }
 
--- SESSION AFTER SESSION
-
--- sessions of a world that come to the groups of the last session
-pub record ReachesLast (rack : Rack) (c : ClosedSession) (more : List ClosedSession) (x : Site) : Type 0 where
-  pub sessions : List (List Move)
-  pub many : length sessions ≡ length more
-  pub to : Site
-  pub run : Sessions x sessions to
-  pub earlier : List ℕ
-  pub reached : IsReached rack earlier (last_session c more) to
-
-on : (rack : Rack) (earlier : List ℕ) (c : ClosedSession) (more : List ClosedSession) (x : Site) → IsReached rack (earlier ++ new_archives c) c x → AllSucceed earlier c more → ReachesLast rack c more x
-on rack earlier c [] x reached go = record { sessions = []; many = refl; to = x; run = refl; earlier = earlier ++ new_archives c; reached = reached }
-on rack earlier c (d ∷ more) x reached go =
-    let one = next_reach rack (earlier ++ new_archives c) c d x reached go.0 go.1 in
-    let rest = on rack (earlier ++ new_archives c) d more one.to one.reached go.2 in
-    record {
-      sessions = one.moves ∷ rest.sessions;
-      many = ap suc rest.many;
-      to = rest.to;
-      run = (one.to, one.go, rest.run);
-      earlier = rest.earlier;
-      reached = rest.reached;
-    }
-
 -- WHAT THEY COME TO
 
 -- the group that one of the world simulates
@@ -258,12 +233,40 @@ all_left rack earlier c x r = record {
   each = λ g read written log h of there. as_left rack earlier c x r g read written log h of there;
 }
 
+-- SESSION AFTER SESSION
+
+-- sessions of a world that come to the groups of the last session
+pub record ReachesLast (rack : Rack) (c : ClosedSession) (more : List ClosedSession) (x : Site) : Type 0 where
+  pub sessions : List (List Move)
+  pub many : length sessions ≡ length more
+  pub to : Site
+  pub run : Sessions x sessions to
+  pub along : AllAsLeft more x sessions to run
+  pub earlier : List ℕ
+  pub reached : IsReached rack earlier (last_session c more) to
+
+on : (rack : Rack) (earlier : List ℕ) (c : ClosedSession) (more : List ClosedSession) (x : Site) → IsReached rack (earlier ++ new_archives c) c x → AllSucceed earlier c more → ReachesLast rack c more x
+on rack earlier c [] x reached go = record { sessions = []; many = refl; to = x; run = refl; along = tt; earlier = earlier ++ new_archives c; reached = reached }
+on rack earlier c (d ∷ more) x reached go =
+    let one = next_reach rack (earlier ++ new_archives c) c d x reached go.0 go.1 in
+    let rest = on rack (earlier ++ new_archives c) d more one.to one.reached go.2 in
+    record {
+      sessions = one.moves ∷ rest.sessions;
+      many = ap suc rest.many;
+      to = rest.to;
+      run = (one.to, one.go, rest.run);
+      along = (all_left rack ((earlier ++ new_archives c) ++ new_archives d) d one.to one.reached, rest.along);
+      earlier = rest.earlier;
+      reached = rest.reached;
+    }
+
 -- THE WHOLE
 
 pub record Reached (c : ClosedSession) (more : List ClosedSession) : Type 0 where
   pub world : IsInWorld c more
   pub earlier : List ℕ
   pub reached : IsReached c.first.rack earlier (last_session c more) world.site
+  pub last : AreAsLeft (last_session c more) world.site
 
 pub reaches : (c : ClosedSession) (more : List ClosedSession) → AreInARow c more → Reached c more
 reaches c more chain =
@@ -277,10 +280,11 @@ reaches c more chain =
         site = rest.to;
         run = (one.to, subst (λ (s : Site). Reaches s one.moves one.to) (sym (first_reopened rack)) one.go, rest.run);
         good = each_good (last_session c more) (all_of (last_session c more)) rest.to.used rest.to.groups rest.reached.simulates;
-        as_left = all_left rack rest.earlier (last_session c more) rest.to rest.reached;
+        as_left = (all_left rack (new_archives c) c one.to one.reached, rest.along);
       };
       earlier = rest.earlier;
       reached = rest.reached;
+      last = all_left rack rest.earlier (last_session c more) rest.to rest.reached;
     }
 
 pub runs_reach : RunsReach

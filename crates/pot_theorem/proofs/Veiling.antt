@@ -17,9 +17,9 @@ use Rattle.pot_steps.proofs.BlockLemmas.{IsBlock-zero_block}
 use Rattle.pot_world.proofs.Auditing.{first_both, sights_fit}
 use Rattle.pot_world.proofs.Later.{reopened_both, runs_seen_on}
 use Rattle.pot_theorem.specs.Hard.{HomesServe}
-use Rattle.pot_theorem.specs.Veil.{SeesInRoom, IsVeiled}
+use Rattle.pot_theorem.specs.Veil.{IsVeiled, SeesAfterEach, SeesInRoom}
 use Rattle.pot_theorem.specs.Sessions.{ClosedSession, last_session}
-use Rattle.pot_theorem.specs.Worlds.{IsInWorld, IsAsLeft}
+use Rattle.pot_theorem.specs.Worlds.{AllAsLeft, IsInWorld, IsAsLeft}
 use Rattle.pot_theorem.proofs.Reaching.{IsReached, as_left}
 use Rattle.pot_theorem.proofs.Standing.{of_named}
 
@@ -56,17 +56,31 @@ in_room exchanges (One k) c read written log a b s same = λ n has served. (
 )
 in_room exchanges Blind c read written log a b s same = tt
 
+-- session by session, while the groups are what the sessions left
+veiled_on : (rack : Rack) (exchanges : Bool) (sights : ℕ → Sight) (cs : List ClosedSession) (sessions : List (List Move)) (bytes : ℕ → ℕ → List ℕ) (x y z : Site) → IsLow rack sights
+    → ((n m : ℕ) → IsBlock (bytes n m)) → Both rack exchanges sights x y → (run : Sessions x sessions z) → SessionsFit sights bytes x sessions z run → AllAsLeft cs x sessions z run
+    → (w : Site) × (other : OtherSessions exchanges sights bytes x y sessions z run w) × SeesAfterEach exchanges sights bytes cs x y sessions z run w other
+veiled_on rack exchanges sights [] sessions bytes x y z low blocks b run fits left =
+    let r = both_on rack exchanges sights sessions bytes x y z low blocks b run fits in (r.0, r.1, tt)
+veiled_on rack exchanges sights (c ∷ cs) [] bytes x y z low blocks b run fits left = absurd left
+veiled_on rack exchanges sights (c ∷ cs) (moves ∷ more) bytes x y z low blocks b run fits left =
+    let one = runs_seen_on rack exchanges sights (bytes 0) moves (reopened_site x) (reopened_site y) run.0 low (blocks 0) (reopened_both rack exchanges sights x y low b) run.1 fits.0 in
+    let rest = veiled_on rack exchanges sights cs more (λ n. bytes (suc n)) run.0 one.0 z low (λ n. blocks (suc n)) one.2 run.2 fits.1 left.1 in (
+      rest.0,
+      (one.0, one.1, rest.1),
+      (
+        λ g read written log a b of ea eb.
+            in_room exchanges (sights g) c read written log a b (left.0.each g read written log a of ea) (same_at exchanges sights run.0.groups one.0.groups g a b one.2.same ea eb),
+        rest.2,
+      ),
+    )
+
 pub stays_veiled : (c : ClosedSession) (more : List ClosedSession) (w : IsInWorld c more) → IsVeiled c more w
 stays_veiled c more w exchanges coalition bytes blocks fits =
     let rack = c.first.rack in
     let sights = sight_of rack coalition in
     let low : IsLow rack sights = sights_fit rack coalition in
-    let r = both_on rack exchanges sights w.sessions bytes (first_site rack) (first_site rack) w.site low blocks (first_both rack exchanges sights c.fits.rack) w.run fits in (
-      r.0,
-      r.1,
-      λ g read written log a b of ea eb.
-          in_room exchanges (sights g) (last_session c more) read written log a b (w.as_left.each g read written log a of ea) (same_at exchanges sights w.site.groups r.0.groups g a b r.2.same ea eb),
-    )
+    veiled_on rack exchanges sights (c ∷ more) w.sessions bytes (first_site rack) (first_site rack) w.site low blocks (first_both rack exchanges sights c.fits.rack) w.run fits w.as_left
 
 -- WHAT SERVES
 

@@ -29,7 +29,7 @@ use Rattle.pot_replies.specs.Digests.{NoTwoAlike}
 use Rattle.pot_promises.specs.Answers.{IsAnswered, job_at}
 use Rattle.pot_promises.specs.Veils.{HasStored, random_of, stream_blocks}
 use Rattle.pot_theorem.specs.Sessions.{ClosedSession, HasReplies}
-use Rattle.pot_theorem.specs.Veil.{SameMoves, SeesAllInRoom}
+use Rattle.pot_theorem.specs.Veil.{SameMoves, SeesThroughout}
 use Rattle.pot_theorem.specs.Worlds.{IsInWorld}
 
 -- WHAT IS PUT
@@ -83,7 +83,7 @@ blocks_at places x = map (λ p. (group_in x p.group).written p.stripe p.column) 
 -- Another file fits what a coalition sees. A store of it takes these random bytes, and with the
 -- files exchanged they give the first random bytes back. Sessions of the same moves that put its
 -- blocks at the places of the record, and each other block as it was, lead to groups in which its
--- blocks stand there, and in which all that the coalition sees is what the room means.
+-- blocks stand there. After each session all that the coalition sees is what the room means.
 pub record FitsAnother (c : ClosedSession) (more : List ClosedSession) (w : IsInWorld c more)
     (exchanges : Bool) (spots : List Spot) (s : Split) (file random other explained : List ℕ)
     : Type 0 where
@@ -94,7 +94,9 @@ pub record FitsAnother (c : ClosedSession) (more : List ClosedSession) (w : IsIn
       (bytes_of s.places (file_blocks s.geometry other explained) (first_site c.first.rack)
       w.sessions w.site w.run) c more w site
   pub stand : blocks_at s.places site ≡ file_blocks s.geometry other explained
-  pub sees : SeesAllInRoom exchanges (has_column spots) c more w site
+  pub sees : SeesThroughout exchanges (has_column spots)
+      (bytes_of s.places (file_blocks s.geometry other explained) (first_site c.first.rack)
+      w.sessions w.site w.run) c more w site run
 
 -- Take a command of a session that was `store` of a file and was answered `stored`. The entries of
 -- its job say which record was published. Take a coalition of data and parity columns, which by the

@@ -1,5 +1,6 @@
 -- The groups that sessions leave are those that moves of a world lead to.
-use Rattle.std.specs.Prelude.{◌≡◌, ◌++◌, ℕ, suc, List, Contains, Some, length, slice_get}
+use Rattle.std.specs.Prelude.{◌≡◌, ◌++◌, ⊥, ℕ, suc, List, [], ◌∷◌, Contains, Some, length}
+use Rattle.std.specs.Prelude.{slice_get}
 use Rattle.pot_machine.specs.declared.entry.Entry.{Entry}
 use Rattle.pot_machine.specs.Machine.{Replays}
 use Rattle.pot_machine.specs.Table.{Table, archives_in}
@@ -8,7 +9,7 @@ use Rattle.pot_shared.specs.Leaving.{still}
 use Rattle.pot_world.specs.Group.{WorldGroup}
 use Rattle.pot_world.specs.Later.{Sessions}
 use Rattle.pot_world.specs.Reached.{AllGood, Move, Site, first_site}
-use Rattle.pot_theorem.specs.Sessions.{ClosedSession, AreInARow, last_session}
+use Rattle.pot_theorem.specs.Sessions.{ClosedSession, AreInARow}
 
 -- A group of a session, by its number: the table that it began with, and the log and the table that
 -- it left.
@@ -41,15 +42,23 @@ pub record AreAsLeft (c : ClosedSession) (z : Site) : Type 0 where
       → IsGroupOf c g read written log → slice_get z.groups g ≡ Some h
       → IsAsLeft c read written log h
 
+-- After each of these lists of moves the groups are what the session left that has its number.
+abbrev pub AllAsLeft : List ClosedSession → (x : Site) (sessions : List (List Move)) (z : Site)
+    → Sessions x sessions z → Type 0
+AllAsLeft [] x sessions z run = Unit {0}
+AllAsLeft (c ∷ more) x [] z run = ⊥
+AllAsLeft (c ∷ more) x (moves ∷ sessions) z run =
+    AreAsLeft c run.0 × AllAsLeft more run.0 sessions z run.2
+
 -- One list of moves of a world for each session, from the first groups of the rack on, leads to
--- groups that keep their rules and are what the last session left.
+-- groups that keep their rules. After each list the groups are what its session left.
 pub record IsInWorld (c : ClosedSession) (more : List ClosedSession) : Type 0 where
   pub sessions : List (List Move)
   pub many : length sessions ≡ suc (length more)
   pub site : Site
   pub run : Sessions (first_site c.first.rack) sessions site
   pub good : AllGood site
-  pub as_left : AreAsLeft (last_session c more) site
+  pub as_left : AllAsLeft (c ∷ more) (first_site c.first.rack) sessions site run
 
 -- So it is with all runs of the program, from the first one on.
 abbrev pub RunsReach : Type 0

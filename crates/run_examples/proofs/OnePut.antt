@@ -53,11 +53,11 @@ module _ (block : List ℕ) (is_block : IsBlock block) where
   abbrev put_entry : Entry
   put_entry = put_of block
 
-  abbrev full : Table
+  abbrev pub full : Table
   full = after bare put_entry
 
   -- archive 0 holds the block, and archive 1 the parity block
-  abbrev holding : ℕ → ℕ → Option (List ℕ)
+  abbrev pub holding : ℕ → ℕ → Option (List ℕ)
   holding zero zero = Some block
   holding zero (suc k) = None
   holding (suc zero) zero = Some parity_block
@@ -89,7 +89,7 @@ module _ (block : List ℕ) (is_block : IsBlock block) where
   acts : Acts bare [] [] put_entry (λ n k. None) holding
   acts = (block, zero_block, refl, refl, writes)
 
-  stood : Stands full holding []
+  pub stood : Stands full holding []
   stood = act_keeps bare put_entry [] [] (λ n k. None) holding legal acts stands
 
   abbrev after_put : GroupState
@@ -294,7 +294,7 @@ module _ (block : List ℕ) (is_block : IsBlock block) where
   each_opened zero t e = subst (λ x. IsOpened (λ n. nothing) (RoseInRoom (λ n. nothing) means []) (RoseOftenInRoom (λ n. nothing) means []) x []) (same_Some bare t e) opened
   each_opened (suc g) t e = none_there g t e
 
-  leaves : Leaves room [] first_image last_image story
+  pub leaves : Leaves room [] first_image last_image story
   leaves = record {
     session = refl;
     rack = refl;
@@ -308,10 +308,10 @@ module _ (block : List ℕ) (is_block : IsBlock block) where
     put = record { puts = λ r brought b p at. absurd (none_contained _ brought.1); once = λ job name mark r h. absurd (none_contained _ h) };
   }
 
-  abbrev stored : ClosedSession
+  abbrev pub stored : ClosedSession
   stored = record { first = first_image; last = last_image; room = room; missing = []; story = story; fits = fits; told = refl; leaves = leaves; apart = record { had = once; left = once } }
 
-  in_a_row : AreInARow stored []
+  pub in_a_row : AreInARow stored []
   in_a_row = record {
     is_first = record { tables = refl; empty = λ n h. empty_archive };
     undisturbed = record {

@@ -57,7 +57,7 @@ use Rattle.pot_theorem.specs.Sessions.{AreInARow, ClosedSession}
 use Rattle.pot_theorem.specs.Hard.{TheHardProperty}
 
 -- THE RACK AND ITS GROUP
-is_rack : IsRack small
+pub is_rack : IsRack small
 is_rack = record {
   geometry = record { fragments = (omega arith, omega arith); need = (omega arith, omega arith); shards = omega arith; blur = omega arith };
   groups = (omega arith, omega arith);

@@ -1,0 +1,4 @@
+pub mod Scripts
+pub mod Stored
+pub mod Desks
+pub mod Archives
