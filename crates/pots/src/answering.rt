@@ -1,9 +1,14 @@
 //! What the words ask for.
 
 use crate::commands::{
-    audit, backup_desk, cat, check, completion, drill, fetch, init, list, migrate, picture, place,
-    recover, recover_desk, renew, repair, replace, restore_desk, sheet, status, store, verify,
+    audit, backup_desk, cat, check, completion, diff, drill, evacuate, fetch, find, init, list,
+    migrate, picture, place, recover, recover_desk, renew, repair, replace, restore_desk, sheet,
+    status, store, verify,
 };
+use crate::racks;
+use crate::racks::Asked;
+use crate::racks::adding::{init_racks, no_racks};
+use crate::racks::entering::Home;
 use crate::verbs::Verb;
 use crate::words::program;
 use clap::error::ErrorKind;
@@ -67,12 +72,54 @@ fn work<X: Threads + Wait + Sync>(
     let Some((name, words)) = matches.subcommand() else {
         return Err(refuse(rt, 2, "no command was given: see pots help"));
     };
+    let Some(verb) = Verb::of(name) else {
+        return Err(refuse(rt, 2, "there is no such command: see pots help"));
+    };
     enter_vault(rt, matches)?;
+    match Home::found(rt)? {
+        Some(home) if verb != Verb::Completion => {
+            let asked = Asked {
+                home: &home,
+                verb,
+                name,
+                words,
+            };
+            racks::work(rt, turns, &asked)
+        }
+        _ if verb == Verb::Init && words.contains_id("racks") => init_racks(rt, turns, words),
+        _ => work_here(rt, turns, verb, words),
+    }
+}
+
+/// Works the command of these words in the working folder, as that of a vault with one desk.
+pub fn work_words<X: Threads + Wait + Sync>(
+    rt: &HostRuntime,
+    turns: &X,
+    words: &[String],
+) -> Result<u8, Stop> {
+    let program = program(rt.alloc())?;
+    let matches = match program.try_get_matches_from(words) {
+        Ok(matches) => matches,
+        Err(error) => return told(rt, &error),
+    };
+    match matches.subcommand() {
+        Some((name, words)) => match Verb::of(name) {
+            Some(verb) => work_here(rt, turns, verb, words),
+            None => Ok(2),
+        },
+        None => Ok(2),
+    }
+}
+
+fn work_here<X: Threads + Wait + Sync>(
+    rt: &HostRuntime,
+    turns: &X,
+    verb: Verb,
+    words: &ArgMatches,
+) -> Result<u8, Stop> {
     let mut visit = Visit::begin(rt, words.get_flag("json"), words.get_str("without"))?;
     visit.quiet = words.get_flag("quiet");
-    let Some(verb) = Verb::of(name) else {
-        return Err(visit.refuse(2, "there is no such command: see pots help"));
-    };
+    visit.read_only = words.get_flag("read-only");
     let status = do_it(verb, turns, &mut visit, words)?;
     Ok(visit.status(status))
 }
@@ -116,16 +163,20 @@ fn do_it<X: Threads + Wait + Sync>(
         Verb::Migrate => migrate::work(turns, visit, words),
         Verb::Renew => renew::work(turns, visit, words),
         Verb::Place => place::work(visit, words),
+        Verb::Evacuate => evacuate::work(turns, visit, words),
         Verb::BackupDesk => backup_desk::work(visit, words),
         Verb::Recover => recover::work(turns, visit, words),
         Verb::RecoverDesk => recover_desk::work(visit, words),
         Verb::Audit => audit::work(turns, visit, words),
         Verb::Drill => drill::work(turns, visit, words),
         Verb::Cat => cat::work(turns, visit, words),
+        Verb::Find => find::work(turns, visit, words),
+        Verb::Diff => diff::work(turns, visit, words),
         Verb::Verify => verify::work(visit, words),
         Verb::RestoreDesk => restore_desk::work(visit, words),
         Verb::Sheet => sheet::work(visit, words),
         Verb::Picture => picture::work(visit, words),
+        Verb::Racks => Err(no_racks(visit)),
         Verb::Completion => completion::work(visit, words),
     }
 }

@@ -7,8 +7,11 @@
 
 mod answering;
 mod commands;
+mod fetched;
 mod gathering;
+mod input;
 mod moving;
+mod racks;
 mod session;
 mod short;
 mod snapshots;

@@ -8,6 +8,7 @@ use pot_image::Image;
 use pot_report::holdings;
 use pot_script::{Command, Reply};
 use pot_session::run;
+use pots_rescue::keep_parity;
 use pots_shares::lay_shares;
 use pots_vault::{MOST_TOGETHER, Stop, Visit, image, tell_losses};
 use std::alloc::{AllocError, Global};
@@ -29,6 +30,9 @@ pub fn hold<X: Threads + Wait + Sync>(
     commands: Vec<Command>,
 ) -> Result<Vec<Reply>, Stop> {
     let image = image_to_begin(turns, visit, &commands)?;
+    if commands.iter().any(|command| may_put(command)) {
+        keep_parity(visit, &image)?;
+    }
     let before = holdings(visit.alloc(), &image)?;
     drop(image);
     let replies = work(turns, visit, commands)?;
@@ -37,7 +41,13 @@ pub fn hold<X: Threads + Wait + Sync>(
     Ok(replies)
 }
 
-/// Holds a session as `hold` does, for a command that tells itself which blocks are gone.
+// Whether a command may put blocks into stripes that are being filled.
+fn may_put(command: &Command) -> bool {
+    matches!(command, Command::Store { .. } | Command::Renew { .. })
+}
+
+/// Holds a session as `hold` does, for a command that tells itself which blocks are gone, and that
+/// puts none.
 pub fn hold_to_tell<X: Threads + Wait + Sync>(
     turns: &X,
     visit: &mut Visit,

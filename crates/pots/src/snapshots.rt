@@ -57,12 +57,13 @@ pub fn newest(
     Ok(found)
 }
 
-fn asked_date(visit: &Visit, text: &str) -> Result<String, Stop> {
+/// The date that a text gives.
+pub fn asked_date(visit: &Visit, text: &str) -> Result<String, Stop> {
     match date_of(visit.alloc(), text)? {
         Some(date) => Ok(date),
         None => Err(visit.refuse(
             2,
-            "--at takes a date as 2026-01-31, or 20260131t235959z as pots list has it",
+            "a date is given as 2026-01-31, or 20260131t235959z as pots list has it",
         )),
     }
 }
@@ -91,19 +92,41 @@ pub fn entries_of<X: Threads + Wait + Sync>(
     visit: &mut Visit,
     stored: &Stored,
 ) -> Result<Vec<Entry>, Stop> {
+    let mut lists = list_texts(turns, visit, &[*stored])?;
+    entries_in(visit, stored, lists.pop().flatten())
+}
+
+/// The lists of snapshots in their order, which are fetched together. None for one that did not
+/// come, which was told.
+pub fn list_texts<X: Threads + Wait + Sync>(
+    turns: &X,
+    visit: &mut Visit,
+    all: &[Stored],
+) -> Result<Vec<Option<Vec<u8>>>, Stop> {
     let mut files = Vec::new(visit.alloc());
-    files.push((stored.snapshot.list, stored.kept))?;
-    let mut lists = fetch_whole(turns, visit, &files)?;
-    let Some(Some(text)) = lists.pop() else {
-        return Err(lost_list(visit, &stored.snapshot.list)?);
+    for stored in all {
+        files.push((stored.snapshot.list, stored.kept))?;
+    }
+    fetch_whole(turns, visit, &files)
+}
+
+/// The entries of a snapshot whose list is this text.
+pub fn entries_in(
+    visit: &Visit,
+    stored: &Stored,
+    text: Option<Vec<u8>>,
+) -> Result<Vec<Entry>, Stop> {
+    let list = &stored.snapshot.list;
+    let Some(text) = text else {
+        return Err(lost_list(visit, list)?);
     };
     match read_list(visit.alloc(), &text) {
         Ok(entries) if are_in_folders(visit.alloc(), &entries)? => Ok(entries),
-        Ok(_) => Err(odd_list(visit, &stored.snapshot.list, 0)?),
+        Ok(_) => Err(odd_list(visit, list, 0)?),
         Err(ListFault::NoMemory) => Err(Stop::NoMemory),
-        Err(ListFault::NoHead) => Err(odd_list(visit, &stored.snapshot.list, 1)?),
+        Err(ListFault::NoHead) => Err(odd_list(visit, list, 1)?),
         Err(ListFault::OddLine(line) | ListFault::OddPath(line)) => {
-            Err(odd_list(visit, &stored.snapshot.list, line)?)
+            Err(odd_list(visit, list, line)?)
         }
     }
 }

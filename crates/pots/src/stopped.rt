@@ -1,19 +1,21 @@
 //! What a session left that did not come to its end, as one that was killed.
 //!
 //! It may have written parity blocks of which the desk does not know, in each group in the stripe
-//! that it was filling. The desk's digests do not fit these, so they count as lost: they are made
-//! anew from the data blocks, as long as these are there.
+//! that it was filling. Those of before were kept beside them, and are put back. Where they were
+//! not, they count as lost, and are made anew from the data blocks, as long as these are there.
 
 use crate::session::{batched, closed, work};
 use pot_image::Image;
 use pot_script::{Command, Reply};
+use pots_rescue::{find_lost, put_parity_back};
 use pots_vault::{Stop, Visit, are_all_there, image_for_session, was_stopped};
 use std::alloc::{AllocError, Global};
 use std::sync::Wait;
 use std::thread::Threads;
 
-/// The desk's image with which a session may begin. Where the session before did not come to its
-/// end, a session that mends all groups is held first, unless these commands do so.
+/// The desk's image with which a session may begin, once blocks that counted as lost were found
+/// again. Where the session before did not come to its end, the parity of before is put back, and a
+/// session that mends all groups is held first, unless these commands do so.
 pub fn image_to_begin<X: Threads + Wait + Sync>(
     turns: &X,
     visit: &mut Visit,
@@ -21,6 +23,10 @@ pub fn image_to_begin<X: Threads + Wait + Sync>(
 ) -> Result<Image, Stop> {
     let is_first = !visit.kept;
     let image = image_for_session(visit)?;
+    if is_first {
+        put_parity_back(visit, &image)?;
+    }
+    let image = find_lost(visit, image)?;
     if !is_first || !was_stopped(&image) {
         return Ok(image);
     }

@@ -1,9 +1,9 @@
 //! Files that are fetched into memory.
 
-use crate::session::hold_together;
+use crate::fetched::fetch_replies;
 use pot_bytes::{Name, digest_of};
 use pot_report::{Kept, Manifest};
-use pot_script::{Command, Reply};
+use pot_script::Reply;
 use pots_vault::{Incoming, Stop, Task, Visit, cut};
 use std::alloc::{AllocError, Global};
 use std::sync::Wait;
@@ -102,11 +102,11 @@ fn fetch_some<X: Threads + Wait + Sync>(
     tasks: &[Task],
     coming: &mut [Coming],
 ) -> Result<(), Stop> {
-    let mut commands = Vec::new(visit.alloc());
+    let mut names = Vec::new(visit.alloc());
     for task in tasks {
-        commands.push(Command::Fetch { name: task.name })?;
+        names.push(task.name)?;
     }
-    let replies = hold_together(turns, visit, commands)?;
+    let replies = fetch_replies(turns, visit, &names)?;
     for (task, reply) in tasks.iter().zip(replies) {
         if let Some(file) = coming.get_mut(task.file) {
             file.take(visit, reply)?;

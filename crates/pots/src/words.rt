@@ -1,9 +1,11 @@
 //! The words of the command line.
 
 use crate::commands::{
-    audit, backup_desk, cat, check, completion, drill, fetch, init, list, migrate, picture, place,
-    recover, recover_desk, renew, repair, replace, restore_desk, sheet, status, store, verify,
+    audit, backup_desk, cat, check, completion, diff, drill, evacuate, fetch, find, init, list,
+    migrate, picture, place, recover, recover_desk, renew, repair, replace, restore_desk, sheet,
+    status, store, verify,
 };
+use crate::racks::adding;
 use clap::{Arg, ArgAction, Command};
 use std::alloc::{AllocError, Global};
 
@@ -23,6 +25,8 @@ pub fn program<'a>(alloc: Global) -> Result<Command<'a>, AllocError> {
         .subcommand(fetch::words(alloc)?)?
         .subcommand(list::words(alloc)?)?
         .subcommand(cat::words(alloc)?)?
+        .subcommand(find::words(alloc)?)?
+        .subcommand(diff::words(alloc)?)?
         .subcommand(status::words(alloc)?)?;
     add_tending(alloc, program)
 }
@@ -36,6 +40,7 @@ fn add_tending<'a>(alloc: Global, program: Command<'a>) -> Result<Command<'a>, A
         .subcommand(migrate::words(alloc)?)?
         .subcommand(renew::words(alloc)?)?
         .subcommand(place::words(alloc)?)?
+        .subcommand(evacuate::words(alloc)?)?
         .subcommand(backup_desk::words(alloc)?)?
         .subcommand(recover::words(alloc)?)?
         .subcommand(recover_desk::words(alloc)?)?
@@ -45,6 +50,7 @@ fn add_tending<'a>(alloc: Global, program: Command<'a>) -> Result<Command<'a>, A
         .subcommand(restore_desk::words(alloc)?)?
         .subcommand(sheet::words(alloc)?)?
         .subcommand(picture::words(alloc)?)?
+        .subcommand(adding::words(alloc)?)?
         .subcommand(completion::words(alloc)?)
 }
 
@@ -116,6 +122,17 @@ pub fn session_command<'a>(
     let help =
         "Go on without these archives, as 4,5: what they hold counts as lost until it is mended";
     command(alloc, name, about)?.arg(option(alloc, "without", "ARCHIVES", help))
+}
+
+/// A command that fetches, by a session or without one.
+pub fn reading_command<'a>(
+    alloc: Global,
+    name: &'a str,
+    about: &'a str,
+) -> Result<Command<'a>, AllocError> {
+    let help =
+        "Hold no session: read over what is mounted, mark nothing as lost, and leave the vault as it is";
+    session_command(alloc, name, about)?.arg(switch(alloc, "read-only", help))
 }
 
 /// Numbers of groups, all where there are none.

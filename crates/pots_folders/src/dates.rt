@@ -17,6 +17,14 @@ pub fn stamp_of(alloc: Global, seconds: u64) -> Result<String, AllocError> {
     format!(in alloc; "{year:04}{month:02}{day:02}t{hour:02}{minute:02}{second:02}z")
 }
 
+/// The minute of a time in seconds since 1970, as people read it: `2026-01-31 23:59`, in UTC.
+pub fn minute_text(alloc: Global, seconds: u64) -> Result<String, AllocError> {
+    let (year, month, day) = day_of(seconds / 86_400);
+    let hour = seconds / 3600 % 24;
+    let minute = seconds / 60 % 60;
+    format!(in alloc; "{year:04}-{month:02}-{day:02} {hour:02}:{minute:02}")
+}
+
 // The year, month and day of a day since 1970, by the Gregorian calendar. Years are counted from
 // March, so that a leap day is the last of its year.
 fn day_of(days: u64) -> (u64, u64, u64) {

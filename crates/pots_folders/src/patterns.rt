@@ -16,6 +16,19 @@ pub fn fits(alloc: Global, pattern: &[u8], path: &[u8]) -> Result<bool, AllocErr
     Ok(fronts.last() == Some(&true))
 }
 
+/// Whether a pattern finds a path: one with a slash where it fits the whole path, any other where it
+/// fits the last part of it.
+pub fn fits_path(alloc: Global, pattern: &[u8], path: &[u8]) -> Result<bool, AllocError> {
+    if pattern.contains(&b'/') {
+        return fits(alloc, pattern, path);
+    }
+    let last = match path.iter().rposition(|byte| *byte == b'/') {
+        Some(at) => path.get(at.saturating_add(1)..).unwrap_or(path),
+        None => path,
+    };
+    fits(alloc, pattern, last)
+}
+
 // The fronts that fit with one byte more of the pattern.
 fn next_fronts(
     alloc: Global,

@@ -1,7 +1,8 @@
-//! When the vault was last checked and drilled, in the file `last-check` of its folder.
+//! When the vault was last checked and drilled, and when a copy of its desk was last made, in the
+//! file `last-check` of its folder.
 //!
-//! A line of it is a word, `check` or `drill`, the seconds since 1970, and the day, which is there
-//! to be read by people. Other lines are passed over, and left out where it is written.
+//! A line of it is a word, `check`, `drill` or `copy`, the seconds since 1970, and the day, which is
+//! there to be read by people. Other lines are passed over, and left out where it is written.
 
 use crate::dates::{date_text, days_between, now};
 use pots_vault::{Stop, Visit, put_file};
@@ -23,13 +24,27 @@ const OLD: u64 = 35;
 pub enum Habit {
     Check,
     Drill,
+    /// A copy of the desk, in another folder than that of the vault.
+    Copy,
 }
+
+/// All of them, in the order of their lines.
+const ALL: [Habit; 3] = [Habit::Check, Habit::Drill, Habit::Copy];
 
 impl Habit {
     fn word(self) -> &'static str {
         match self {
             Habit::Check => "check",
             Habit::Drill => "drill",
+            Habit::Copy => "copy",
+        }
+    }
+
+    // What is to be done where the last time is long ago.
+    fn advice(self) -> &'static str {
+        match self {
+            Habit::Check | Habit::Drill => "look once a month",
+            Habit::Copy => "make a new copy of the desk with pots backup-desk",
         }
     }
 }
@@ -38,18 +53,14 @@ impl Habit {
 /// changes.
 pub fn remember(visit: &Visit, habit: Habit) -> Result<(), Stop> {
     let moment = now(&visit.rt);
-    let check = last(visit, Habit::Check)?;
-    let drill = last(visit, Habit::Drill)?;
     let mut text = String::new(visit.alloc());
-    match habit {
-        Habit::Check => {
-            append_line(visit, &mut text, Habit::Check, Some(moment))?;
-            append_line(visit, &mut text, Habit::Drill, drill)?;
-        }
-        Habit::Drill => {
-            append_line(visit, &mut text, Habit::Check, check)?;
-            append_line(visit, &mut text, Habit::Drill, Some(moment))?;
-        }
+    for other in ALL {
+        let moment = if other == habit {
+            Some(moment)
+        } else {
+            last(visit, other)?
+        };
+        append_line(visit, &mut text, other, moment)?;
     }
     let rt = &visit.rt;
     if put_file(rt, FILE, text.as_bytes(), true).is_err() {
@@ -102,12 +113,13 @@ fn moment_in(line: &str, habit: Habit) -> Option<u64> {
     words.next()?.parse::<u64>().ok()
 }
 
-/// Tells when the vault was last checked and drilled.
+/// Tells when the vault was last checked and drilled, and when a copy of its desk was last made.
 pub fn tell_habits(visit: &Visit) -> Result<(), Stop> {
-    let check = last(visit, Habit::Check)?;
-    let drill = last(visit, Habit::Drill)?;
-    tell_habit(visit, Habit::Check, check)?;
-    tell_habit(visit, Habit::Drill, drill)
+    for habit in ALL {
+        let moment = last(visit, habit)?;
+        tell_habit(visit, habit, moment)?;
+    }
+    Ok(())
 }
 
 fn tell_habit(visit: &Visit, habit: Habit, moment: Option<u64>) -> Result<(), Stop> {
@@ -122,20 +134,19 @@ fn tell_habit(visit: &Visit, habit: Habit, moment: Option<u64>) -> Result<(), St
         let line = line.to_string(visit.alloc())?;
         return println!(visit; "{line}");
     }
-    let ago = ago_text(visit, moment)?;
+    let ago = ago_text(visit, habit, moment)?;
     println!(visit; "last {word}: {date}{ago}")
 }
 
 // How long ago a moment was, and what to do where that is too long.
-fn ago_text(visit: &Visit, moment: Option<u64>) -> Result<String, Stop> {
+fn ago_text(visit: &Visit, habit: Habit, moment: Option<u64>) -> Result<String, Stop> {
     let Some(seconds) = moment else {
         return Ok(String::new(visit.alloc()));
     };
     let days = days_between(seconds, now(&visit.rt));
-    let advice = if days > OLD {
-        "; look once a month"
-    } else {
-        ""
-    };
-    Ok(format!(in visit.alloc(); ", {days} days ago{advice}")?)
+    if days <= OLD {
+        return Ok(format!(in visit.alloc(); ", {days} days ago")?);
+    }
+    let advice = habit.advice();
+    Ok(format!(in visit.alloc(); ", {days} days ago; {advice}")?)
 }

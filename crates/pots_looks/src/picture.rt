@@ -6,6 +6,7 @@ use crate::sheet::sheet_text;
 use pot_image::Image;
 use pot_looks::escape;
 use pot_report::{Holding, holdings, place_of};
+use pots_sites::{place_word, places_here};
 use pots_vault::{Stop, Visit, image, place_text};
 use std::str::from_utf8;
 
@@ -70,11 +71,13 @@ fn append_map(visit: &Visit, page: &mut String, image: &Image) -> Result<(), Sto
 }
 
 fn begin_row(visit: &Visit, page: &mut String, image: &Image, group: u8) -> Result<(), Stop> {
-    let place = place_of(&image.rack, group);
+    let named = places_here(&visit.rt)?;
+    let place = place_word(visit.alloc(), &named, place_of(&image.rack, group))?;
     let end = if group == 0 { "" } else { "</tr>\n" };
-    let text = format!(in visit.alloc();
-        "{end}<tr><th>place {place}</th><th>group {group}</th>\n"
-    )?;
+    page.push_str(end)?;
+    page.push_str("<tr><th>place ")?;
+    append_escaped(visit, page, place.as_str())?;
+    let text = format!(in visit.alloc(); "</th><th>group {group}</th>\n")?;
     page.push_str(text.as_str())?;
     Ok(())
 }

@@ -7,6 +7,7 @@ use crate::wrapping::append_paragraph;
 use pot_bytes::{Geometry, Rack, digest_of};
 use pot_image::{Image, read_image};
 use pot_report::{Room, Size, digest_text, kept_files, places_of};
+use pots_sites::{place_word, places_here};
 use pots_vault::{Stop, Visit, image_bytes};
 
 /// How many rows of archives are told at most, so that the sheet has no more than two pages.
@@ -27,7 +28,11 @@ pub fn sheet_text(visit: &mut Visit) -> Result<String, Stop> {
     append_digest(visit, &mut text, &bytes)?;
     append_rows(visit, &mut text, &image)?;
     append_blanks(&mut text)?;
-    append_disk_dead(&mut text, &image.rack)?;
+    if places_here(&visit.rt)?.is_some() {
+        append_named_gone(&mut text)?;
+    } else {
+        append_disk_dead(&mut text, &image.rack)?;
+    }
     append_place_gone(visit, &mut text, &image.rack)?;
     append_desk_gone(visit, &mut text, &image)?;
     append_no_program(&mut text)?;
@@ -133,7 +138,9 @@ fn append_rows(visit: &Visit, text: &mut String, image: &Image) -> Result<(), St
 }
 
 fn append_row(visit: &Visit, text: &mut String, row: &Row) -> Result<(), Stop> {
-    let place = row.place;
+    let named = places_here(&visit.rt)?;
+    let place = place_word(visit.alloc(), &named, row.place)?;
+    let place = place.as_str();
     let group = row.group;
     let numbers = row.numbers(visit)?;
     let folder = front_of(visit, row.folder.as_str())?;
@@ -178,6 +185,17 @@ fn append_disk_dead(text: &mut String, rack: &Rack) -> Result<(), Stop> {
         } else {
             "  Of each group two archives may be gone. A disk that is only not mounted is to be mounted, and not named by --without."
         },
+    )
+}
+
+// Where a place has one disk, that is all that a dead disk takes.
+fn append_named_gone(text: &mut String) -> Result<(), Stop> {
+    text.push_str("A DISK IS DEAD, and so the place NAME is gone\n")?;
+    text.push_str("  pots fetch --read-only --all --to ../back\n")?;
+    text.push_str("  pots evacuate NAME /mnt/new; pots check\n")?;
+    append_part(
+        text,
+        "  A disk that is mounted in another folder is not dead: pots place NAME FOLDER tells where it is.",
     )
 }
 

@@ -4,6 +4,7 @@ use pot_image::Image;
 use pot_machine::Column;
 use pot_report::place_of;
 use pots_vault::{Stop, Visit, lying_of, own_folder};
+use std::fs;
 
 /// A folder in which archives of a place lie.
 #[derive(Drop)]
@@ -57,12 +58,34 @@ fn add_archive(visit: &Visit, spots: &mut Vec<Spot>, place: u8, archive: u32) ->
     Ok(())
 }
 
-/// Whether some archive lies in another folder than the vault's own.
+/// Whether some archive lies in another folder than the vault's own, and than those of its places
+/// that are still in it.
 pub fn are_apart(visit: &Visit, spots: &[Spot]) -> Result<bool, Stop> {
     let own = own_folder(visit)?;
+    let places = places_in(visit, own.as_str())?;
     Ok(
-        spots
-            .iter()
-            .any(|spot| spot.folder.as_str() != own.as_str()),
+        spots.iter().any(|spot| spot.folder.as_str() != own.as_str()
+            && !is_below(spot.folder.as_str(), &places)),
     )
+}
+
+// The path of the folder of places of the vault, with a slash behind it. None where its places have
+// no names.
+fn places_in(visit: &Visit, own: &str) -> Result<Option<String>, Stop> {
+    let rt = &visit.rt;
+    if fs::metadata(rt, "PLACES").is_ok() {
+        return Ok(Some(format!(in visit.alloc(); "{own}/places/")?));
+    }
+    Ok(match own.rsplit_once('/') {
+        Some((above, name)) if name.starts_with("rack-") && fs::metadata(rt, "../PLACES").is_ok() =>
+            { Some(format!(in visit.alloc(); "{above}/places/")?) }
+        _ => None,
+    })
+}
+
+fn is_below(folder: &str, places: &Option<String>) -> bool {
+    match places {
+        Some(places) => folder.starts_with(places.as_str()),
+        None => false,
+    }
 }

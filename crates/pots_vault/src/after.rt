@@ -1,5 +1,6 @@
 //! What is told after a session: of each archive, how many of its blocks the session found gone.
 
+use crate::ailing::what_mends;
 use crate::archives::named;
 use crate::stop::Stop;
 use crate::visit::Visit;
@@ -29,9 +30,7 @@ fn lost_since(before: &[Holding], holding: &Holding) -> u32 {
 fn tell_loss(visit: &Visit, holding: &Holding, lost: u32) -> Result<(), Stop> {
     let rt = &visit.rt;
     let name = named(visit, holding.archive)?;
-    let group = holding.group;
-    let _ = eprintln!(rt;
-        "pots: {name}: {lost} blocks were found gone in this session; mend with pots repair {group}"
-    );
+    let mend = what_mends(visit.alloc(), holding)?;
+    let _ = eprintln!(rt; "pots: {name}: {lost} blocks were found gone in this session; {mend}");
     Ok(())
 }

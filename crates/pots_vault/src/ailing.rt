@@ -6,7 +6,7 @@ use crate::visit::Visit;
 use pot_image::Image;
 use pot_report::{Holding, holdings};
 use serde_json::json;
-use std::alloc::AllocError;
+use std::alloc::{AllocError, Global};
 
 /// How many blocks are gone, of all archives.
 #[derive(Clone, Copy)]
@@ -94,25 +94,38 @@ fn tell_one(visit: &Visit, holding: &Holding) -> Result<(), Stop> {
     let rt = &visit.rt;
     let archive = holding.archive;
     let name = numbered(visit, archive)?;
-    let group = holding.group;
+    let mend = what_mends(visit.alloc(), holding)?;
     let gone = holding.gone();
     let to_mend = holding.to_mend();
     if holding.live == 0 {
         let _ = eprintln!(rt;
-            "pots: {name} is ailing: all its {gone} blocks are gone; if its disk is dead, bring a new archive to another disk with pots place NEW FOLDER, put it in its place with pots replace {archive} NEW, and then mend with pots repair {group}"
+            "pots: {name} is ailing: all its {gone} blocks are gone; if its disk is dead, bring a new archive to another disk with pots place NEW FOLDER, put it in its place with pots replace {archive} NEW, and then {mend}"
         );
     } else {
-        let _ = eprintln!(rt;
-            "pots: {name} is ailing: {to_mend} of its blocks are gone; mend with pots repair {group}"
-        );
+        let _ = eprintln!(rt; "pots: {name} is ailing: {to_mend} of its blocks are gone; {mend}");
     }
     Ok(())
+}
+
+/// What to do about the blocks of an archive that are gone, as far as parity gives them back.
+pub(crate) fn what_mends(alloc: Global, holding: &Holding) -> Result<String, AllocError> {
+    let Holding { group, stuck, .. } = *holding;
+    if stuck == 0 {
+        format!(in alloc; "mend with pots repair {group}")
+    } else if stuck < holding.to_mend() {
+        format!(in alloc; "mend all but {stuck} with pots repair {group}")
+    } else {
+        String::from_str(
+            alloc,
+            "renew what they are of with pots renew, since parity gives none of them back",
+        )
+    }
 }
 
 // Tells how many blocks parity does not give back, and what to do.
 fn tell_stuck(rt: &HostRuntime, blocks: u64) {
     let _ = eprintln!(rt;
-        "pots: {blocks} blocks are not given back by parity: pots fetch --all --to FOLDER while the other places have every file, and pots renew for each that it gives; where archives were only not mounted, put the desk of before back, as potshards-recovery(7) tells"
+        "pots: {blocks} blocks are not given back by parity: pots fetch --all --to FOLDER while the other places have every file, and pots renew for each that it gives; where archives are only not mounted, mount them, and what they hold is found again"
     );
 }
 

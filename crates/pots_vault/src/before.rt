@@ -1,17 +1,18 @@
 //! What is looked at before a session: that each archive of which the desk speaks is there, in a
-//! file of its own and under its own number, and whether the session before came to its end.
+//! file of its own and under its own number, and gives what it holds, and whether the session before
+//! came to its end.
 
 use crate::archives::{Standing, archive_name, look_at, look_for_file, named};
 use crate::desk::{image_bytes, parsed};
 use crate::kept_images::keep_image;
-use crate::sampling::look_for_strangers;
+use crate::sampling::{look_for_silent, look_for_strangers};
 use crate::stop::Stop;
 use crate::twins::look_for_twins;
 use crate::visit::Visit;
+use pot_files::{Shut, open_archive_file};
 use pot_image::Image;
 use pot_report::{Holding, holdings};
 use std::fs;
-use std::fs::OpenOptions;
 use std::io::ErrorKind;
 
 /// The desk's image, once all archives are there of which it speaks, or of those that are not it
@@ -24,10 +25,11 @@ pub fn image_for_session(visit: &mut Visit) -> Result<Image, Stop> {
     let image = parsed(visit, &bytes)?;
     let all = holdings(visit.alloc(), &image)?;
     look_for_files(visit, &all)?;
+    look_at_access(visit, &all)?;
     look_for_twins(visit, &all)?;
+    look_for_silent(visit, &image, &all)?;
     look_for_strangers(visit, &image, &all)?;
     look_at_archives(visit, &all)?;
-    look_at_access(visit, &all)?;
     if !visit.kept {
         keep_image(visit, image.session, &bytes)?;
         visit.kept = true;
@@ -73,7 +75,7 @@ fn look_at_archives(visit: &Visit, all: &[Holding]) -> Result<(), Stop> {
         return Ok(());
     }
     let line = format!(in visit.alloc();
-        "see that all disks are mounted and all archives are in their places; only where these are gone for good give --without {list}: what they held counts as lost from then on, also when they come back, until it is mended as far as parity goes"
+        "see that all disks are mounted and all archives are in their places; only where these are gone for good give --without {list}: what they held counts as lost until it is mended, as far as parity goes, or found again when they come back"
     )?;
     Err(visit.refuse(8, line.as_str()))
 }
@@ -118,46 +120,100 @@ fn look_at_one(visit: &Visit, holding: &Holding, list: &mut String) -> Result<()
 fn tell_absent(visit: &Visit, number: u32, standing: Standing) -> Result<(), Stop> {
     let rt = &visit.rt;
     let name = named(visit, number)?;
-    let what = if standing == Standing::Short {
-        "shorter than the desk knows it"
-    } else {
-        "missing"
-    };
-    let _ = eprintln!(rt; "pots: {name} is {what}");
+    if standing == Standing::Short {
+        let _ = eprintln!(rt; "pots: {name} is shorter than the desk knows it");
+        return Ok(());
+    }
+    let file = archive_name(visit.alloc(), number)?;
+    match fs::metadata(rt, file.as_str()) {
+        Err(e) if e.kind() != ErrorKind::NotFound => {
+            let _ = eprintln!(rt; "pots: {name} could not be reached: {e}");
+        }
+        _ => {
+            let _ = eprintln!(rt; "pots: {name} is missing");
+        }
+    }
     Ok(())
 }
 
-// Ends the command where the file of an archive cannot be opened as a session opens it.
+// Ends the command where the file of an archive cannot be opened as a session opens it. Those that
+// can only be read are told before the first session of a command.
 fn look_at_access(visit: &Visit, all: &[Holding]) -> Result<(), Stop> {
-    let mut are_open = true;
+    let mut shut = 0u32;
+    let mut read_only = 0u32;
     for holding in all.iter() {
-        if !can_open(visit, holding.archive)? {
-            are_open = false;
+        match access_of(visit, holding.archive)? {
+            Access::Open => {}
+            Access::ReadOnly => read_only = read_only.saturating_add(1),
+            Access::Shut => shut = shut.saturating_add(1),
         }
     }
-    if are_open {
-        return Ok(());
+    if shut > 0 {
+        return Err(visit.refuse(
+            8,
+            "no session can begin without these, and nothing was written: see that each can be read, and that each link leads to the file of its archive",
+        ));
     }
-    Err(visit.refuse(
-        8,
-        "no session can begin without these, and nothing was written: see that each can be read and written, and that its disk is not mounted to be read alone",
-    ))
+    if read_only > 0 && !visit.kept {
+        let rt = &visit.rt;
+        let _ = eprintln!(rt;
+            "pots: what these hold is fetched, and nothing is stored or mended there until they can be written again"
+        );
+    }
+    Ok(())
 }
 
-// Whether the file of an archive can be opened to be read and written, or is not there. Where it
-// cannot be that is told.
-fn can_open(visit: &Visit, number: u32) -> Result<bool, Stop> {
-    let rt = &visit.rt;
+/// How a session can open the file of an archive.
+enum Access {
+    /// As it is wanted, or it is not there.
+    Open,
+    ReadOnly,
+    Shut,
+}
+
+// How a session can open the file of an archive. What is not as it is wanted is told.
+fn access_of(visit: &Visit, number: u32) -> Result<Access, Stop> {
     let name = archive_name(visit.alloc(), number)?;
-    let mut how = OpenOptions::new();
-    how.read(true).write(true);
-    match how.open(rt, name.as_str()) {
-        Ok(_) => Ok(true),
-        Err(e) if e.kind() == ErrorKind::NotFound => Ok(true),
-        Err(e) => {
-            let name = named(visit, number)?;
-            let _ = eprintln!(rt; "pots: {name} could not be opened to be read and written: {e}");
-            Ok(false)
+    match open_archive_file(&visit.rt, name.as_str(), false) {
+        Ok((_, true)) => Ok(Access::Open),
+        Ok((_, false)) => {
+            if !visit.kept {
+                tell_read_only(visit, number)?;
+            }
+            Ok(Access::ReadOnly)
+        }
+        Err(Shut::LeadsNowhere) => Ok(Access::Open),
+        Err(Shut::Failed(e)) if e.kind() == ErrorKind::NotFound => Ok(Access::Open),
+        Err(why) => {
+            tell_shut(visit, number, &why)?;
+            Ok(Access::Shut)
         }
     }
+}
+
+fn tell_read_only(visit: &Visit, number: u32) -> Result<(), Stop> {
+    let rt = &visit.rt;
+    let name = named(visit, number)?;
+    let _ = eprintln!(rt; "pots: {name} can only be read");
+    Ok(())
+}
+
+// Tells why the file of an archive is not opened.
+fn tell_shut(visit: &Visit, number: u32, why: &Shut) -> Result<(), Stop> {
+    let rt = &visit.rt;
+    let name = named(visit, number)?;
+    match why {
+        Shut::LeadsNowhere => {
+            let _ = eprintln!(rt; "pots: {name} leads nowhere");
+        }
+        Shut::Foreign => {
+            let _ = eprintln!(rt;
+                "pots: {name} leads to a file with no blocks of an archive, and would be written over"
+            );
+        }
+        Shut::Failed(e) => {
+            let _ = eprintln!(rt; "pots: {name} could not be opened: {e}");
+        }
+    }
+    Ok(())
 }

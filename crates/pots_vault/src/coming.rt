@@ -2,13 +2,18 @@
 
 use crate::archives::{archive_name, look_for_file, named};
 use crate::desk::image;
+use crate::new_file::open_to_read;
 use crate::stop::Stop;
 use crate::visit::Visit;
 use pot_report::holdings;
-use std::fs;
+use std::fs::File;
+use std::os::unix::fs::FileExt;
 
 /// How many bytes of an archive's file a slot has: the first is 1 where a block stands there.
-const SLOT_BYTES: usize = 1025;
+const SLOT_BYTES: u64 = 1025;
+
+/// At so many slots of an archive's file is looked at most: no archive has half as many stripes.
+const MOST_SLOTS: u64 = 8192;
 
 /// Ends the command where an archive that is to come holds blocks from before. Who kept a copy of
 /// it from then has shards that no audit counts.
@@ -23,10 +28,10 @@ pub fn look_for_empty(visit: &mut Visit, number: u32) -> Result<(), Stop> {
     look_for_file(visit, number)?;
     let name = archive_name(visit.alloc(), number)?;
     let name = name.as_str();
-    let Ok(bytes) = fs::read(&visit.rt, name) else {
+    let Some(file) = open_to_read(&visit.rt, name) else {
         return Ok(());
     };
-    if !holds_blocks(&bytes) {
+    if !holds_blocks(&file) {
         return Ok(());
     }
     let name = named(visit, number)?;
@@ -37,8 +42,18 @@ pub fn look_for_empty(visit: &mut Visit, number: u32) -> Result<(), Stop> {
 }
 
 // Whether a block stands in some slot of an archive's file.
-fn holds_blocks(bytes: &[u8]) -> bool {
-    bytes
-        .chunks(SLOT_BYTES)
-        .any(|slot| slot.first() == Some(&1))
+fn holds_blocks(file: &File) -> bool {
+    let length = file.metadata().map_or(0, |found| found.len());
+    let slots = length.div_ceil(SLOT_BYTES).min(MOST_SLOTS);
+    for slot in 0..slots {
+        let mut byte = [0u8; 1];
+        if file
+            .read_exact_at(&mut byte, slot.saturating_mul(SLOT_BYTES))
+            .is_ok()
+            && byte == [1]
+        {
+            return true;
+        }
+    }
+    false
 }

@@ -120,7 +120,7 @@ impl Goal {
         let rt = &visit.rt;
         let path = self.path(visit, name)?;
         let _ = eprintln!(rt;
-            "pots: {path} could not be written: see that its disk has room and the folder may be written"
+            "pots: {path} could not be written: see that its disk has room, the folder may be written, and ulimit -f lets it be so long"
         );
         Ok(())
     }

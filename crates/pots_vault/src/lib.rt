@@ -25,6 +25,7 @@ mod progress;
 mod sampling;
 mod stop;
 mod twins;
+mod unread;
 mod visit;
 
 pub use after::tell_losses;
@@ -42,7 +43,7 @@ pub use lying::{
     Lying, MOST_PLACES, are_shares_about, folders_about, lying_of, own_folder, share_path,
 };
 pub use new_file::{open_to_read, put_file, sync_folder_of};
-pub use numbers::{MOST_ARCHIVES, read_number};
+pub use numbers::{MOST_ARCHIVES, ranges_text, read_number};
 pub use progress::Progress;
 pub use stop::{Stop, UNREAD, refuse};
 pub use visit::{Visit, listed_archives, number_in};

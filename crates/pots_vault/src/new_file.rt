@@ -1,5 +1,6 @@
 //! Files that are put in their place whole.
 
+use pot_files::longest_file;
 use std::fs::{File, OpenOptions};
 use std::io::ErrorKind;
 use std::os::fd::AsRawFd;
@@ -18,6 +19,8 @@ pub struct NewFile {
     beside: String,
     path: String,
     length: u64,
+    /// The most bytes that it may have, where the system tells a bound.
+    most: Option<u64>,
 }
 
 impl NewFile {
@@ -30,13 +33,19 @@ impl NewFile {
             beside,
             path: own,
             length: 0,
+            most: longest_file(rt),
         })
     }
 
-    /// Writes bytes behind those that it has.
+    /// Writes bytes behind those that it has. Where files may not be so long, none is written: the
+    /// system would end the program by a signal.
     pub fn append(&mut self, bytes: &[u8]) -> io::Result<()> {
+        let length = self.length.saturating_add(bytes.len() as u64);
+        if self.most.is_some_and(|most| length > most) {
+            return Err(ErrorKind::FileTooLarge.into());
+        }
         self.file.write_all_at(bytes, self.length)?;
-        self.length = self.length.saturating_add(bytes.len() as u64);
+        self.length = length;
         Ok(())
     }
 

@@ -41,3 +41,23 @@ pub fn read_number(text: &str) -> Option<u32> {
         None
     }
 }
+
+/// Numbers in their order as a text that `read_numbers` reads, as `0-3,12`. Of more than one in a
+/// row the first and the last are told.
+pub fn ranges_text(alloc: Global, numbers: &[u32]) -> Result<String, AllocError> {
+    let mut text = String::new(alloc);
+    let mut before = None;
+    for (place, number) in numbers.iter().enumerate() {
+        let goes_on = before.is_some_and(|last: u32| last.checked_add(1) == Some(*number));
+        let next = numbers.get(place.saturating_add(1)).copied();
+        let is_last = number.checked_add(1) != next || next.is_none();
+        before = Some(*number);
+        if !goes_on {
+            let comma = if text.is_empty() { "" } else { "," };
+            text.push_str(format!(in alloc; "{comma}{number}")?.as_str())?;
+        } else if is_last {
+            text.push_str(format!(in alloc; "-{number}")?.as_str())?;
+        }
+    }
+    Ok(text)
+}

@@ -1,5 +1,5 @@
-//! Whether an archive's file has the blocks of another archive, as where links were mixed up: some
-//! of its blocks are compared with what the desk knows of them.
+//! Whether an archive's file gives what it holds, and not the blocks of another archive, as where
+//! links were mixed up: some of its blocks are read, and compared with what the desk knows of them.
 
 ghost use Rattle.std.specs.Prelude.{◌<◌};
 ghost use Rattle.pot_machine.specs.Table.{width};
@@ -14,6 +14,8 @@ use pot_machine::{GroupTable, SlotState};
 use pot_report::Holding;
 use std::alloc::{AllocError, Global};
 use std::fs::File;
+use std::io;
+use std::io::ErrorKind;
 use std::os::unix::fs::FileExt;
 
 /// The bytes of a slot: one that is 1 where a block is held, and the block.
@@ -27,6 +29,71 @@ const COMPARED: usize = 8;
 struct KnownBlock {
     slot: u32,
     digest: Digest,
+}
+
+/// Ends the command where archives are silent: not one of the blocks that are looked at in them
+/// could be read, as where a disk has died or a mount does not answer. A session would count all
+/// that they hold as lost. Those that the command goes on without are passed over.
+pub fn look_for_silent(visit: &Visit, image: &Image, all: &[Holding]) -> Result<(), Stop> {
+    let mut list = String::new(visit.alloc());
+    for holding in all.iter() {
+        if visit.without.contains(&holding.archive) {
+            continue;
+        }
+        if let Some(why) = silence_of(visit, image, holding)? {
+            tell_silent(visit, holding.archive, &why, &mut list)?;
+        }
+    }
+    if list.is_empty() {
+        return Ok(());
+    }
+    let line = format!(in visit.alloc();
+        "nothing was written: see that their disks and mounts answer, and give the command once more; only where these are gone for good give --without {list}: what they held counts as lost from then on, until it is mended as far as parity goes"
+    )?;
+    Err(visit.refuse(8, line.as_str()))
+}
+
+// Tells of an archive that is silent, and lists it.
+fn tell_silent(visit: &Visit, number: u32, why: &io::Error, list: &mut String) -> Result<(), Stop> {
+    let rt = &visit.rt;
+    let name = named(visit, number)?;
+    let _ = eprintln!(rt; "pots: {name} is there, and no block of it could be read: {why}");
+    if !list.is_empty() {
+        list.push_str(",")?;
+    }
+    list.push_str(format!(in visit.alloc(); "{number}")?.as_str())?;
+    Ok(())
+}
+
+// Why the first read of an archive failed, where not one of them worked. A block that is not there
+// was read.
+fn silence_of(visit: &Visit, image: &Image, holding: &Holding) -> Result<Option<io::Error>, Stop> {
+    let name = archive_name(visit.alloc(), holding.archive)?;
+    let Some(file) = open_to_read(&visit.rt, name.as_str()) else {
+        return Ok(None);
+    };
+    let blocks = blocks_of(visit.alloc(), image, holding)?;
+    let step = blocks.len().div_ceil(COMPARED).max(1);
+    let mut first = None;
+    for part in blocks.chunks(step) {
+        let Some(block) = part.first() else {
+            continue;
+        };
+        match failure_at(&file, block.slot) {
+            Some(why) => first = first.or(Some(why)),
+            None => return Ok(None),
+        }
+    }
+    Ok(first)
+}
+
+// Why a slot of a file could not be read. None where it could, or the file ends before it.
+fn failure_at(file: &File, slot: u32) -> Option<io::Error> {
+    let mut bytes = [0u8; SLOT as usize];
+    match file.read_exact_at(&mut bytes, u64::from(slot) * SLOT) {
+        Err(e) if e.kind() != ErrorKind::UnexpectedEof => Some(e),
+        _ => None,
+    }
 }
 
 /// Ends the command where the file of an archive has none of the blocks that are compared, and one

@@ -2,6 +2,7 @@
 
 use crate::numbers::{MOST_ARCHIVES, read_number, read_numbers};
 use crate::stop::{Stop, UNREAD, refuse};
+use crate::unread::unread_line;
 use pot_files::DeskFile;
 use pot_report::{reply_json, reply_line};
 use pot_script::Reply;
@@ -20,6 +21,8 @@ pub struct Visit {
     pub json: bool,
     /// Whether nothing is printed on standard output.
     pub quiet: bool,
+    /// Whether files are read over what is mounted, and no session is held.
+    pub read_only: bool,
     /// The archives that a session is held without.
     pub without: Vec<u32>,
     /// Whether the desk's image was kept already, as it was before the first session.
@@ -40,6 +43,7 @@ impl Visit {
             desk: DeskFile::new(rt),
             json,
             quiet: false,
+            read_only: false,
             without,
             kept: false,
             unread: Cell::new(false),
@@ -114,7 +118,11 @@ impl Visit {
         }
         if refused && (!self.json || self.unread.get()) {
             let rt = &self.rt;
-            let line = reply_line(self.alloc(), reply)?;
+            let line = if self.read_only {
+                unread_line(self.alloc(), reply)?
+            } else {
+                reply_line(self.alloc(), reply)?
+            };
             let _ = eprintln!(rt; "pots: {line}");
         } else if !self.json {
             let line = reply_line(self.alloc(), reply)?;

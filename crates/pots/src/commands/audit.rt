@@ -30,9 +30,18 @@ pub fn work<X: Threads + Wait + Sync>(
     visit: &mut Visit,
     words: &ArgMatches,
 ) -> Result<u8, Stop> {
-    let image = image(visit)?;
     let numbers = listed_archives(&visit.rt, words.get_str("ARCHIVES").unwrap_or(""))?;
-    let line = audit_line(visit, &image, &numbers)?;
+    audit_archives(turns, visit, &numbers)
+}
+
+/// Tells what is exposed to who has these archives, and answers the status.
+pub fn audit_archives<X: Threads + Wait + Sync>(
+    turns: &X,
+    visit: &mut Visit,
+    numbers: &[u32],
+) -> Result<u8, Stop> {
+    let image = image(visit)?;
+    let line = audit_line(visit, &image, numbers)?;
     let words = words_of(visit.alloc(), line.as_str())?;
     let ran = call(turns, visit, &words, Vec::new(visit.alloc()))?;
     if ran.status > 1 {
@@ -73,8 +82,8 @@ fn audit_line(visit: &Visit, image: &Image, numbers: &[u32]) -> Result<String, S
     Ok(line)
 }
 
-// Ends the command where the desk does not speak of one of these archives.
-fn look_for_all(visit: &Visit, holdings: &[Holding], numbers: &[u32]) -> Result<(), Stop> {
+/// Ends the command where the desk does not speak of one of these archives.
+pub fn look_for_all(visit: &Visit, holdings: &[Holding], numbers: &[u32]) -> Result<(), Stop> {
     for number in numbers {
         if !holdings.iter().any(|holding| holding.archive == *number) {
             let line = format!(in visit.alloc();

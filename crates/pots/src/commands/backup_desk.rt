@@ -2,10 +2,11 @@
 
 use crate::words::{command, operand, switch};
 use clap::ArgMatches;
-use pots_vault::{Stop, Visit, image_bytes, put_file};
+use pots_looks::{Habit, remember};
+use pots_vault::{Stop, Visit, image_bytes, own_folder, put_file};
 use std::alloc::{AllocError, Global};
-use std::io;
 use std::io::ErrorKind;
+use std::{fs, io};
 
 /// Its words.
 pub fn words<'a>(alloc: Global) -> Result<clap::Command<'a>, AllocError> {
@@ -23,6 +24,9 @@ pub fn work(visit: &mut Visit, words: &ArgMatches) -> Result<u8, Stop> {
     let bytes = image_bytes(visit)?;
     let path = words.get_str("FILE").unwrap_or("desk.copy");
     put(visit, words, path, &bytes)?;
+    if is_outside(visit, path)? {
+        remember(visit, Habit::Copy)?;
+    }
     if visit.json {
         visit.tell_file("kept", path)?;
     } else {
@@ -31,6 +35,18 @@ pub fn work(visit: &mut Visit, words: &ArgMatches) -> Result<u8, Stop> {
         )?;
     }
     Ok(0)
+}
+
+// Whether a file lies in another folder than that of the vault.
+fn is_outside(visit: &Visit, path: &str) -> Result<bool, Stop> {
+    let own = own_folder(visit)?;
+    let Ok(whole) = fs::canonicalize(&visit.rt, path) else {
+        return Ok(false);
+    };
+    Ok(match whole.as_path().parent() {
+        Some(folder) => folder.as_str() != own.as_str(),
+        None => false,
+    })
 }
 
 /// Writes a text to the file that the words name, and tells it.

@@ -1,9 +1,9 @@
-//! `cat`: one file of a snapshot, on standard output.
+//! `cat`: one file, or one of a snapshot, on standard output.
 
 use crate::snapshots::{asked_snapshot, entries_of};
 use crate::whole::fetch_whole;
-use crate::words::{operand, option, session_command};
-use clap::ArgMatches;
+use crate::words::{operand, option, reading_command};
+use clap::{Arg, ArgAction, ArgMatches};
 use pot_bytes::{Digest, Name, digest_of};
 use pot_report::kept_files;
 use pot_tree::{Content, Entry, read_pack};
@@ -16,13 +16,17 @@ use std::thread::Threads;
 
 /// Its words.
 pub fn words<'a>(alloc: Global) -> Result<clap::Command<'a>, AllocError> {
-    session_command(
+    reading_command(
         alloc,
         "cat",
-        "Write one file of a snapshot to standard output",
+        "Write one file, or one of a snapshot, to standard output",
     )?
-    .arg(operand(alloc, "NAME", "The name of the snapshot"))?
-    .arg(operand(alloc, "PATH", "The path in it"))?
+    .arg(operand(alloc, "NAME", "The name of the file, or of the snapshot"))?
+    .arg(
+        Arg::new(alloc, "PATH")
+            .action(ArgAction::Set)
+            .help("The path in the snapshot"),
+    )?
     .arg(option(
         alloc,
         "at",
@@ -31,14 +35,52 @@ pub fn words<'a>(alloc: Global) -> Result<clap::Command<'a>, AllocError> {
     ))
 }
 
-/// Writes one file of a snapshot to standard output.
+/// Writes one file, or one of a snapshot, to standard output.
 pub fn work<X: Threads + Wait + Sync>(
     turns: &X,
     visit: &mut Visit,
     words: &ArgMatches,
 ) -> Result<u8, Stop> {
     let name = words.get_str("NAME").unwrap_or("");
-    let path = words.get_str("PATH").unwrap_or("");
+    match words.get_str("PATH") {
+        Some(path) => write_path(turns, visit, words, (name, path)),
+        None if words.get_str("at").is_some() => {
+            Err(visit.refuse(2, "--at is of a snapshot: give the path too"))
+        }
+        None => write_file(turns, visit, name),
+    }
+}
+
+// Writes a stored file, once all of it is there.
+fn write_file<X: Threads + Wait + Sync>(
+    turns: &X,
+    visit: &mut Visit,
+    name: &str,
+) -> Result<u8, Stop> {
+    let image = image(visit)?;
+    let files = kept_files(visit.alloc(), &image)?;
+    let found = Name::read(name.as_bytes()).and_then(|name| files
+        .get(&name)
+        .map(|kept| (name, *kept)));
+    let Some(found) = found else {
+        let line = format!(in visit.alloc();
+            "{name} is not stored: pots list tells what is; of a snapshot give the path too"
+        )?;
+        return Err(visit.refuse(1, line.as_str()));
+    };
+    match fetch_whole(turns, visit, &[found])?.pop() {
+        Some(Some(bytes)) => write_out(visit, &bytes),
+        _ => Err(visit.refuse(1, "the file could not be fetched, and nothing was written")),
+    }
+}
+
+// Writes one file of a snapshot.
+fn write_path<X: Threads + Wait + Sync>(
+    turns: &X,
+    visit: &mut Visit,
+    words: &ArgMatches,
+    (name, path): (&str, &str),
+) -> Result<u8, Stop> {
     let image = image(visit)?;
     let stored = asked_snapshot(visit, &image, name, words.get_str("at"))?;
     let entries = entries_of(turns, visit, &stored)?;

@@ -6,15 +6,20 @@ use pots_vault::{Stop, Visit};
 use std::alloc::{AllocError, Global};
 
 /// Each command, and its options beside those of all.
-const COMMANDS: [(&str, &str); 22] = [
+const COMMANDS: [(&str, &str); 26] = [
     (
         "init",
-        "--sites --survive --room --dry-run --groups --columns --parity --stripes --fragments --need --shards --blur",
+        "--sites --places --survive --room --dry-run --racks --groups --columns --parity --stripes --fragments --need --shards --blur",
     ),
     ("store", "--as --exclude --dry-run --without"),
-    ("fetch", "--to --force --all --at --path --without"),
-    ("cat", "--at --without"),
-    ("list", "--at --all --without"),
+    (
+        "fetch",
+        "--to --force --all --at --path --read-only --without",
+    ),
+    ("cat", "--at --read-only --without"),
+    ("find", "--read-only --without"),
+    ("diff", "--read-only --without"),
+    ("list", "--at --all --read-only --without"),
     ("status", ""),
     ("check", "--without"),
     ("repair", "--without"),
@@ -25,11 +30,12 @@ const COMMANDS: [(&str, &str); 22] = [
         "--all --fragments --need --shards --blur --without",
     ),
     ("place", ""),
+    ("evacuate", "--dry-run"),
     ("backup-desk", "--force"),
     ("restore-desk", "--force"),
     (
         "recover",
-        "--to --archives --stripes --columns --parity --blur --robust --without",
+        "--to --all --archives --stripes --columns --parity --blur --robust --without",
     ),
     ("recover-desk", ""),
     ("audit", ""),
@@ -37,6 +43,7 @@ const COMMANDS: [(&str, &str); 22] = [
     ("verify", ""),
     ("sheet", "--force"),
     ("picture", "--force"),
+    ("racks", ""),
     ("completion", ""),
 ];
 

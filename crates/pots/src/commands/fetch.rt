@@ -1,12 +1,11 @@
 //! `fetch`: files that are fetched, and written whole or not at all.
 
 use crate::commands::fetch_folder;
-use crate::session::hold_together;
-use crate::words::{option, session_command, switch};
+use crate::fetched::fetch_replies;
+use crate::words::{option, reading_command, switch};
 use clap::{Arg, ArgAction, ArgMatches};
 use pot_bytes::Name;
 use pot_report::{Kept, kept_files, name_text};
-use pot_script::Command;
 use pots_vault::{Goal, Incoming, Progress, Stop, Task, Visit, cut, image, is_stored};
 use std::alloc::{AllocError, Global};
 use std::sync::Wait;
@@ -14,7 +13,7 @@ use std::thread::Threads;
 
 /// Its words.
 pub fn words<'a>(alloc: Global) -> Result<clap::Command<'a>, AllocError> {
-    let command = session_command(
+    let command = reading_command(
         alloc,
         "fetch",
         "Fetch files, and write them whole or not at all",
@@ -173,14 +172,14 @@ fn fetch_some<X: Threads + Wait + Sync>(
     tasks: &[Task],
 ) -> Result<(), Stop> {
     let mut places = Vec::new(visit.alloc());
-    let mut commands = Vec::new(visit.alloc());
+    let mut names = Vec::new(visit.alloc());
     for task in tasks {
         if files.get(task.file).is_some_and(|file| file.is_wanting()) {
             places.push(task.file)?;
-            commands.push(Command::Fetch { name: task.name })?;
+            names.push(task.name)?;
         }
     }
-    let replies = hold_together(turns, visit, commands)?;
+    let replies = fetch_replies(turns, visit, &names)?;
     for (place, reply) in places.iter().zip(replies) {
         if let Some(file) = files.get_mut(*place) {
             file.take(visit, goal, reply)?;

@@ -1,12 +1,12 @@
 //! `list`: the files and snapshots that are stored, by the desk alone; or what one snapshot has.
 
 use crate::snapshots::{asked_snapshot, entries_of};
-use crate::words::{option, session_command, switch};
+use crate::words::{option, reading_command, switch};
 use clap::{Arg, ArgAction, ArgMatches};
 use pot_bytes::Name;
 use pot_report::{Kept, Size, digest_text, kept_files, name_text};
 use pot_tree::{Content, Entry};
-use pots_folders::{Snapshot, is_pack};
+use pots_folders::{Snapshot, is_pack, minute_text};
 use pots_vault::{Stop, Visit, image, is_stored};
 use serde_json::json;
 use std::alloc::{AllocError, Global};
@@ -16,7 +16,7 @@ use std::thread::Threads;
 
 /// Its words.
 pub fn words<'a>(alloc: Global) -> Result<clap::Command<'a>, AllocError> {
-    let command = session_command(
+    let command = reading_command(
         alloc,
         "list",
         "List the files and snapshots that are stored, or what one snapshot has",
@@ -111,38 +111,48 @@ fn list_snapshot<X: Threads + Wait + Sync>(
 
 fn tell_entry(visit: &Visit, entry: &Entry) -> Result<(), Stop> {
     let path = from_utf8(entry.path.as_slice()).unwrap_or("a path that is no UTF-8");
+    let time = entry.time;
     match &entry.content {
-        Content::Folder => tell_plain(visit, "folder", path, ""),
+        Content::Folder => tell_plain(visit, "folder", (path, time), ""),
         Content::Link { target } => {
             let target = from_utf8(target.as_slice()).unwrap_or("");
-            tell_plain(visit, "link", path, target)
+            tell_plain(visit, "link", (path, time), target)
         }
         Content::File { size, digest, .. } if visit.json => {
             let digest = digest_text(visit.alloc(), digest)?;
             let digest = digest.as_str();
-            let line = json!(in visit.alloc(); {"path": path, "length": *size, "sha256": digest})?;
+            let line =
+                json!(in visit.alloc(); {"path": path, "length": *size, "time": time, "mode": entry.mode, "sha256": digest})?;
             let line = line.to_string(visit.alloc())?;
             println!(visit; "{line}")
         }
         Content::File { size, .. } => {
             let size = Size(*size);
             let size = format!(in visit.alloc(); "{size}")?;
-            let size = size.as_str();
-            println!(visit; "{size:>10}  {path}")
+            tell_plain(visit, size.as_str(), (path, time), "")
         }
     }
 }
 
-// Tells a folder or a link.
-fn tell_plain(visit: &Visit, kind: &str, path: &str, target: &str) -> Result<(), Stop> {
+// Tells a path with its time, behind what it is or its size.
+fn tell_plain(
+    visit: &Visit,
+    kind: &str,
+    (path, time): (&str, u64),
+    target: &str,
+) -> Result<(), Stop> {
     if visit.json {
-        let line = json!(in visit.alloc(); {"path": path, "kind": kind, "target": target})?;
+        let line =
+            json!(in visit.alloc(); {"path": path, "kind": kind, "time": time, "target": target})?;
         let line = line.to_string(visit.alloc())?;
-        println!(visit; "{line}")
-    } else if target.is_empty() {
-        println!(visit; "{kind:>10}  {path}")
+        return println!(visit; "{line}");
+    }
+    let date = minute_text(visit.alloc(), time)?;
+    let date = date.as_str();
+    if target.is_empty() {
+        println!(visit; "{kind:>10}  {date}  {path}")
     } else {
-        println!(visit; "{kind:>10}  {path}  to {target}")
+        println!(visit; "{kind:>10}  {date}  {path}  to {target}")
     }
 }
 

@@ -1,15 +1,18 @@
 //! `recover`: files that are got back without the desk.
+ghost use Rattle.std.specs.Prelude.{◌≡◌, ℕ, false};
+ghost use Rattle.std.specs.Ordering.{nat_cmp};
+ghost use Rattle.std.specs.BTreeSet.{contains};
 
 use crate::session::words_of;
 use crate::words::{command, option, switch};
 use clap::ArgMatches;
 use pot_doubles::{MemSink, MemSource};
 use pot_files::NoGate;
+use pot_remnants::{Remains, Survey, no_tallies};
 use pot_report::{Found, read_found};
 use pot_session::run;
 use pots_remains::{
-    Given, Reach, Remains, Survey, no_tallies, reach_of, reason, tell_gone, tell_nothing,
-    tell_tallies, write_all,
+    Given, Reach, hidden_of, reach_of, reason, tell_gone, tell_nothing, tell_tallies, write_all,
 };
 use pots_vault::{Stop, Visit, make_folder};
 use std::alloc::{AllocError, Global};
@@ -61,6 +64,11 @@ pub fn words<'a>(alloc: Global) -> Result<clap::Command<'a>, AllocError> {
             "parity",
             "P",
             "Parity archives of a group; as the blocks say where it is left out",
+        ))?
+        .arg(switch(
+            alloc,
+            "all",
+            "Read rings within one archive too, which no store lays, and which may be forged",
         ))
 }
 
@@ -70,20 +78,27 @@ pub fn work<X: Threads + Wait + Sync>(
     visit: &mut Visit,
     words: &ArgMatches,
 ) -> Result<u8, Stop> {
-    let survey = Survey::of(visit)?;
+    let survey = Survey::of(&visit.rt, &visit.without)?;
     let reach = reach_of(visit, &given_in(words), &survey)?;
     let folder = words.get_str("to").unwrap_or(".");
     make_folder(visit, folder)?;
     let complete = tell_gone(visit, &survey, reach)?;
     let line = recover_line(visit, words, reach)?;
-    let (status, found, room) = read_all(turns, visit, line.as_str(), (survey, reach))?;
+    let (apart, hidden) = hidden_of(visit, &survey, reach, words.get_flag("all"))?;
+    let tallies = no_tallies(&visit.rt, reach.archives)?;
+    let room = Remains::new(&visit.rt, "pots", survey, reach.shape, tallies, hidden);
+    let (status, found, room) = read_all(turns, visit, line.as_str(), room)?;
     let sound = tell_tallies(visit, &room)?;
     if found.is_empty() {
         tell_nothing(visit);
         return Ok(1);
     }
-    let good = write_all(visit, folder, found)?;
-    Ok(if complete && sound && good { status } else { 1 })
+    let good = write_all(visit, folder, found, (&room, reach))?;
+    Ok(if complete && apart && sound && good {
+        status
+    } else {
+        1
+    })
 }
 
 fn given_in<'a>(words: &'a ArgMatches) -> Given<'a> {
@@ -112,17 +127,18 @@ fn recover_line(visit: &Visit, words: &ArgMatches, reach: Reach) -> Result<Strin
     Ok(line)
 }
 
-// What the blocks give, the status of the reading, and the archives as they were read.
+// What the blocks give, the status of the reading, and the archives as they were read. None of
+// them is out.
 fn read_all<X: Threads + Wait + Sync>(
     turns: &X,
     visit: &mut Visit,
     line: &str,
-    (survey, reach): (Survey, Reach),
-) -> Result<(u8, Vec<Found>, Remains), Stop> {
+    mut room: Remains,
+) -> Result<(u8, Vec<Found>, Remains), Stop>
+    requires home { (n : ℕ) → contains nat_cmp room.out n ≡ false }
+{
     let alloc = visit.alloc();
     let words = words_of(alloc, line)?;
-    let tallies = no_tallies(&visit.rt, reach.archives)?;
-    let mut room = Remains::new(&visit.rt, survey, reach.shape, tallies);
     let mut source = MemSource::new(Vec::new(alloc), Vec::new(alloc));
     let mut sink = MemSink::new(alloc, Vec::new(alloc));
     // No random bytes are needed to read.

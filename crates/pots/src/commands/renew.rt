@@ -11,6 +11,7 @@ use pot_report::{Kept, Room, Size, kept_files};
 use pot_script::{Command, Reply};
 use pots_vault::{Stop, Visit, image};
 use std::alloc::{AllocError, Global};
+use std::collections::BTreeMap;
 use std::sync::Wait;
 use std::thread::Threads;
 
@@ -62,11 +63,24 @@ pub fn work<X: Threads + Wait + Sync>(
         ));
     }
     let names = if words.get_flag("all") {
-        all_names(visit, &mut image, geometry)?
+        all_names(visit.alloc(), &image)?
     } else {
         names_of(visit, words, &image)?
     };
+    // A file takes the room that it has where files are split so.
+    image.rack.geometry = geometry;
+    judge_room(visit, &image, &names)?;
     drop(image);
+    renew_names(turns, visit, &names, geometry)
+}
+
+/// Splits stored files anew, some in each session. Answers the status.
+pub fn renew_names<X: Threads + Wait + Sync>(
+    turns: &X,
+    visit: &mut Visit,
+    names: &[Name],
+    geometry: Geometry,
+) -> Result<u8, Stop> {
     let mut status = 0;
     for names in names.chunks(MOST_RENEWED) {
         if renew_some(turns, visit, names, geometry)? != 0 {
@@ -114,25 +128,41 @@ fn is_of_list(reply: &Reply) -> bool {
     }
 }
 
-// The names of all files and their parts, once there is room to split each anew.
-fn all_names(visit: &Visit, image: &mut Image, geometry: Geometry) -> Result<Vec<Name>, Stop> {
-    // A file takes the room that it has where files are split so.
-    image.rack.geometry = geometry;
-    let mut room = Room::left(visit.alloc(), image)?;
-    let left = Size(room.bytes());
-    let mut names = Vec::new(visit.alloc());
-    let mut fits = true;
+/// The names of all files and their parts.
+pub fn all_names(alloc: Global, image: &Image) -> Result<Vec<Name>, AllocError> {
+    let mut names = Vec::new(alloc);
     for record in image.records.iter() {
-        fits = room.take(record.length) && fits;
         names.push(record.name)?;
     }
+    Ok(names)
+}
+
+/// Ends the command where there is no room to split each of these anew: none is.
+pub fn judge_room(visit: &Visit, image: &Image, names: &[Name]) -> Result<(), Stop> {
+    let lengths = lengths_of(visit.alloc(), image)?;
+    let mut room = Room::left(visit.alloc(), image)?;
+    let left = Size(room.bytes());
+    let mut fits = true;
+    for name in names {
+        let length = lengths.get(name).copied().unwrap_or(0);
+        fits = room.take(length) && fits;
+    }
     if fits {
-        return Ok(names);
+        return Ok(());
     }
     let line = format!(in visit.alloc();
-        "there is no room to split all files anew, and none was: {left} is left; split some anew by their names, or store all in a second archive in another folder"
+        "there is no room to split all these files anew, and none was: {left} is left; split fewer anew, by their names, or store all in a second archive in another folder"
     )?;
     Err(visit.refuse(1, line.as_str()))
+}
+
+// The length of each file and part, by its name.
+fn lengths_of(alloc: Global, image: &Image) -> Result<BTreeMap<Name, u64>, AllocError> {
+    let mut lengths = BTreeMap::new(alloc);
+    for record in image.records.iter() {
+        let _ = lengths.insert(record.name, record.length)?;
+    }
+    Ok(lengths)
 }
 
 // The names that the words give, and of a file in parts those of all its parts.

@@ -5,6 +5,7 @@ use pot_image::Image;
 use pot_report::{Holding, Room, Size, holdings, kept_files, place_of};
 use pots_looks::tell_habits;
 use pots_shares::tell_shares;
+use pots_sites::{place_word, places_here, tell_places};
 use pots_vault::{Standing, Stop, Visit, image, look_at, place_text};
 use serde_json::json;
 use std::alloc::{AllocError, Global};
@@ -22,6 +23,7 @@ pub fn words<'a>(alloc: Global) -> Result<clap::Command<'a>, AllocError> {
 pub fn work(visit: &mut Visit) -> Result<u8, Stop> {
     let image = image(visit)?;
     tell_archives(visit, &image)?;
+    tell_places(visit, &image)?;
     let room = Room::left(visit.alloc(), &image)?.bytes();
     if visit.json {
         let files = kept_files(visit.alloc(), &image)?.len() as u64;
@@ -43,19 +45,21 @@ pub fn tell_archives(visit: &Visit, image: &Image) -> Result<(), Stop> {
     if !visit.json {
         println!(visit; "archive  place  group  kind    blocks    gone  file")?;
     }
+    let named = places_here(&visit.rt)?;
     for holding in holdings(visit.alloc(), image)?.iter() {
         let file = file_text(visit, holding)?;
         if visit.json {
             tell_holding_json(visit, holding, file.as_str())?;
         } else {
             let place = place_of(&image.rack, holding.group);
-            tell_holding(visit, holding, place, file.as_str())?;
+            let place = place_word(visit.alloc(), &named, place)?;
+            tell_holding(visit, holding, place.as_str(), file.as_str())?;
         }
     }
     Ok(())
 }
 
-fn tell_holding(visit: &Visit, holding: &Holding, place: u8, file: &str) -> Result<(), Stop> {
+fn tell_holding(visit: &Visit, holding: &Holding, place: &str, file: &str) -> Result<(), Stop> {
     let Holding {
         archive,
         group,

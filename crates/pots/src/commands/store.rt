@@ -2,6 +2,7 @@
 
 use crate::commands::store_folder;
 use crate::gathering::Gathered;
+use crate::input::read_input;
 use crate::short::{add_short, is_listed_otherwise};
 use crate::words::{operands, option, session_command, switch};
 use clap::{Arg, ArgAction, ArgMatches};
@@ -24,12 +25,16 @@ pub fn words<'a>(alloc: Global) -> Result<clap::Command<'a>, AllocError> {
         "Store files, each under the last part of its path, or a folder as a snapshot",
     )?;
     command
-        .arg(operands(alloc, "FILE", "The files to store, or one folder"))?
+        .arg(operands(
+            alloc,
+            "FILE",
+            "The files to store, or one folder, or - for standard input",
+        ))?
         .arg(option(
             alloc,
             "as",
             "NAME",
-            "Store the one file or folder under this name",
+            "Store the one file or folder, or standard input, under this name",
         ))?
         .arg(
             Arg::new(alloc, "exclude")
@@ -47,10 +52,12 @@ pub fn words<'a>(alloc: Global) -> Result<clap::Command<'a>, AllocError> {
 
 /// A file that is to be stored.
 #[derive(Drop)]
-struct Item {
-    path: String,
-    name: Name,
-    length: u64,
+pub struct Item {
+    pub path: String,
+    pub name: Name,
+    pub length: u64,
+    /// The bytes of standard input, which are read at once.
+    pub given: Option<Vec<u8>>,
 }
 
 /// Stores files. Room for all of them is looked for before the first byte is stored.
@@ -61,9 +68,6 @@ pub fn work<X: Threads + Wait + Sync>(
 ) -> Result<u8, Stop> {
     if let Some(folder) = store_folder::folder_in(visit, words) {
         return store_folder::work(turns, visit, words, folder);
-    }
-    if words.get_flag("dry-run") || words.get_strs("exclude").is_some() {
-        return Err(visit.refuse(2, "--exclude and --dry-run are for one folder"));
     }
     let items = asked(visit, words)?;
     let image = image(visit)?;
@@ -123,9 +127,12 @@ pub enum Outcome {
     Ended,
 }
 
-// The files that the words name.
-fn asked(visit: &Visit, words: &ArgMatches) -> Result<Vec<Item>, Stop> {
+/// The files that the words name.
+pub fn asked(visit: &Visit, words: &ArgMatches) -> Result<Vec<Item>, Stop> {
     let paths = words.get_strs("FILE").unwrap_or(&[]);
+    if words.get_flag("dry-run") || words.get_strs("exclude").is_some() {
+        return Err(no_folder(visit, paths)?);
+    }
     let given = words.get_str("as");
     if given.is_some() && paths.len() != 1 {
         return Err(visit.refuse(2, "--as names one file: give one, or leave it out"));
@@ -142,6 +149,14 @@ fn asked(visit: &Visit, words: &ArgMatches) -> Result<Vec<Item>, Stop> {
     Ok(items)
 }
 
+// The end of the command where words for one folder are given, and there is none.
+fn no_folder(visit: &Visit, paths: &[&str]) -> Result<Stop, Stop> {
+    match paths {
+        [path] if fs::metadata(&visit.rt, path).is_err() => unread(visit, path),
+        _ => Ok(visit.refuse(2, "--exclude and --dry-run are for one folder")),
+    }
+}
+
 // The end of the command where two files have one name.
 fn named_twice(visit: &Visit, name: &Name) -> Result<Stop, Stop> {
     let name = name_text(name);
@@ -152,6 +167,9 @@ fn named_twice(visit: &Visit, name: &Name) -> Result<Stop, Stop> {
 }
 
 fn item_of(visit: &Visit, path: &str, given: Option<&str>) -> Result<Item, Stop> {
+    if path == "-" {
+        return input_item(visit, given);
+    }
     let name = match given {
         Some(text) => text,
         None => Path::new(path).file_name().unwrap_or(path),
@@ -171,6 +189,22 @@ fn item_of(visit: &Visit, path: &str, given: Option<&str>) -> Result<Item, Stop>
         path,
         name,
         length: file.len(),
+        given: None,
+    })
+}
+
+// Standard input to its end, under the name that has to be given.
+fn input_item(visit: &Visit, given: Option<&str>) -> Result<Item, Stop> {
+    let Some(name) = given else {
+        return Err(visit.refuse(2, "standard input has no name: give it one with --as"));
+    };
+    let name = readable_name(visit, "-", name)?;
+    let bytes = read_input(visit)?;
+    Ok(Item {
+        path: String::from_str(visit.alloc(), "-")?,
+        name,
+        length: bytes.len() as u64,
+        given: Some(bytes),
     })
 }
 
@@ -245,20 +279,33 @@ fn store_item<X: Threads + Wait + Sync>(
     item: &Item,
     gathered: &mut Gathered,
 ) -> Result<Outcome, Stop> {
+    if let Some(bytes) = &item.given {
+        return store_bytes(turns, visit, known, (&item.name, bytes), gathered);
+    }
     let Ok(file) = fs::read(&visit.rt, item.path.as_str()) else {
         return Err(unread(visit, item.path.as_str())?);
     };
+    store_bytes(turns, visit, known, (&item.name, &file), gathered)
+}
+
+fn store_bytes<X: Threads + Wait + Sync>(
+    turns: &X,
+    visit: &mut Visit,
+    known: &Known,
+    (name, file): (&Name, &[u8]),
+    gathered: &mut Gathered,
+) -> Result<Outcome, Stop> {
     if file.len() > PART_SIZE {
-        return store_long(turns, visit, known, (&item.name, &file), gathered);
+        return store_long(turns, visit, known, (name, file), gathered);
     }
-    if known.is_begun(&item.name) {
-        let same = known.digest(&item.name) == Some(digest_of(&file));
-        return Ok(told_stored(visit, &item.name, same));
+    if known.is_begun(name) {
+        let same = known.digest(name) == Some(digest_of(file));
+        return Ok(told_stored(visit, name, same));
     }
-    if is_listed_otherwise(visit, known, (&item.name, &file))? {
-        return Ok(told_stored(visit, &item.name, false));
+    if is_listed_otherwise(visit, known, (name, file))? {
+        return Ok(told_stored(visit, name, false));
     }
-    Ok(added(add_short(turns, visit, known, (&item.name, &file), gathered)?))
+    Ok(added(add_short(turns, visit, known, (name, file), gathered)?))
 }
 
 // What came of a file that was added, or was not.

@@ -22,6 +22,9 @@ use std::sync::Wait;
 use std::thread::Threads;
 use std::time::{SystemTime, UNIX_EPOCH};
 
+/// Of so many snapshots of one name the dates may be ahead of the clock by a second each.
+const MOST_AT_ONCE: u64 = 60;
+
 /// The one operand, where it is a folder.
 pub fn folder_in<'a>(visit: &Visit, words: &ArgMatches<'a>) -> Option<&'a str> {
     let paths = words.get_strs("FILE").unwrap_or(&[]);
@@ -53,12 +56,14 @@ pub fn work<X: Threads + Wait + Sync>(
     words: &ArgMatches,
     folder: &str,
 ) -> Result<u8, Stop> {
-    let list = dated_name(visit, words, folder)?;
+    let seconds = seconds_now(visit);
+    let list = dated_name(visit, words, folder, seconds)?;
     let walk = walk_folder(&visit.rt, folder, words.get_strs("exclude").unwrap_or(&[]))?;
     let mut packer = known_packs(turns, visit)?;
     let mut plan = planned(visit, folder, walk, &packer)?;
     let image = image(visit)?;
     let known = Known::of(visit.alloc(), image)?;
+    let list = free_name(visit, words, folder, &known, (list, seconds))?;
     judge_room(visit, &known, &plan)?;
     if words.get_flag("dry-run") {
         tell(visit, "would store", &list, &plan)?;
@@ -75,17 +80,40 @@ pub fn work<X: Threads + Wait + Sync>(
     Ok(if plan.walk.failed == 0 { 0 } else { 1 })
 }
 
-// The name of the list: that of the folder, or the one that is given, and the date.
-fn dated_name(visit: &Visit, words: &ArgMatches, folder: &str) -> Result<Name, Stop> {
-    let text = match words.get_str("as") {
-        Some(text) => text,
-        None => Path::new(folder).file_name().unwrap_or(folder),
-    };
-    let seconds = match SystemTime::now(&visit.rt) {
+// The seconds since 1970 by the system's clock, or 0 where that cannot be read.
+fn seconds_now(visit: &Visit) -> u64 {
+    match SystemTime::now(&visit.rt) {
         Ok(now) => now
             .duration_since(UNIX_EPOCH)
             .map_or(0, |since| since.as_secs()),
         Err(_) => 0,
+    }
+}
+
+// The name of the list, or where a snapshot has it already, as one of the same second, the name of
+// the next second that none has.
+fn free_name(
+    visit: &Visit,
+    words: &ArgMatches,
+    folder: &str,
+    known: &Known,
+    (name, seconds): (Name, u64),
+) -> Result<Name, Stop> {
+    let mut free = name;
+    for later in 1..MOST_AT_ONCE {
+        if !known.is_begun(&free) {
+            break;
+        }
+        free = dated_name(visit, words, folder, seconds.saturating_add(later))?;
+    }
+    Ok(free)
+}
+
+// The name of the list: that of the folder, or the one that is given, and the date.
+fn dated_name(visit: &Visit, words: &ArgMatches, folder: &str, seconds: u64) -> Result<Name, Stop> {
+    let text = match words.get_str("as") {
+        Some(text) => text,
+        None => Path::new(folder).file_name().unwrap_or(folder),
     };
     let stamp = stamp_of(visit.alloc(), seconds)?;
     match list_name(visit.alloc(), text, stamp.as_str())? {
@@ -165,12 +193,26 @@ fn read_file(
     }
 }
 
-// Ends the command where there is not room for all that is new.
-fn judge_room(visit: &Visit, known: &Known, plan: &Plan) -> Result<(), Stop> {
+/// Whether there is room for all that is new of a folder.
+pub fn fits<X: Threads + Wait + Sync>(
+    turns: &X,
+    visit: &mut Visit,
+    words: &ArgMatches,
+    folder: &str,
+) -> Result<bool, Stop> {
+    let walk = walk_folder(&visit.rt, folder, words.get_strs("exclude").unwrap_or(&[]))?;
+    let packer = known_packs(turns, visit)?;
+    let plan = planned(visit, folder, walk, &packer)?;
+    let image = image(visit)?;
+    let known = Known::of(visit.alloc(), image)?;
+    has_room(visit, &known, &plan)
+}
+
+// Whether there is room for all that is new.
+fn has_room(visit: &Visit, known: &Known, plan: &Plan) -> Result<bool, Stop> {
     let mut room = known.room(visit.alloc())?;
-    let left = Size(room.bytes());
     let Some(name) = Name::read(b"pack-") else {
-        return Ok(());
+        return Ok(true);
     };
     let mut fits = known.take_room(&mut room, &name, list_length(plan));
     for length in pack_lengths(visit.alloc(), &plan.new)? {
@@ -178,9 +220,15 @@ fn judge_room(visit: &Visit, known: &Known, plan: &Plan) -> Result<(), Stop> {
             fits = false;
         }
     }
-    if fits {
+    Ok(fits)
+}
+
+// Ends the command where there is not room for all that is new.
+fn judge_room(visit: &Visit, known: &Known, plan: &Plan) -> Result<(), Stop> {
+    if has_room(visit, known, plan)? {
         return Ok(());
     }
+    let left = Size(known.room(visit.alloc())?.bytes());
     let line = format!(in visit.alloc();
         "there is no room for this folder, and nothing was stored: {left} is left; leave some of it out with --exclude, or make a second archive in another folder, with pots init"
     )?;
