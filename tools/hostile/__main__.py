@@ -1,6 +1,6 @@
 """Hostile use of the built program: python3 tools/hostile PART [--program FILE] [--jobs N]
 
-PART is memory, devices, crash, stops, forged or planted, or all for all of them. A table tells how much was tried and how much
+PART is memory, devices, crash, stops, forged, outside or planted, or all for all of them. A table tells how much was tried and how much
 was wrong, and the status is 0 where nothing was. It needs Python 3.9, a C compiler, strace, and the program as the README's
 first command leaves it."""
 
@@ -18,11 +18,12 @@ import crash
 import devices
 import forged
 import memory
+import outside
 import planted
 import program
 import stops
 
-PARTS = {"memory": memory, "devices": devices, "crash": crash, "stops": stops, "forged": forged, "planted": planted}
+PARTS = {"memory": memory, "devices": devices, "crash": crash, "stops": stops, "forged": forged, "outside": outside, "planted": planted}
 
 
 def work(name, at, base):
@@ -54,9 +55,10 @@ def main():
     words = argparse.ArgumentParser(prog="hostile", description=__doc__)
     words.add_argument("part", choices=[*PARTS, "all"])
     words.add_argument("--program", type=pathlib.Path, default=program.PROGRAM)
+    words.add_argument("--pots", type=pathlib.Path, default=program.POTS)
     words.add_argument("--jobs", type=int, default=os.cpu_count())
     asked, began = words.parse_args(), time.time()
-    program.PROGRAM = asked.program.resolve()
+    program.PROGRAM, program.POTS = asked.program.resolve(), asked.pots.resolve()
     if not program.PROGRAM.is_file():
         sys.exit(f"hostile: {program.PROGRAM} is not there: build it first")
     program.library()

@@ -2,8 +2,9 @@
  * streams, lets one of them fail, and notes what they change.
  *
  * HOSTILE_FAIL=N    the Nth counted call, from 1, fails
- * HOSTILE_HOW=HOW   eio, enospc: it does nothing and fails so; dead: so does each later call on its file; short: a read
+ * HOSTILE_HOW=HOW   eio, enospc, eintr: it does nothing and fails so; dead: so does each later call on its file; short: a read
  *                   or a write moves one byte, and a call without a count works; kill: the program is killed before it
+ * HOSTILE_MUTE=NAMES  each read of a file whose name begins with one of these, parted by commas, fails with EIO
  * HOSTILE_ALLOC=N   the Nth request for memory, from 1, is refused
  * HOSTILE_REST=1    and so is each one behind it
  * HOSTILE_LOG=FILE  each counted call is noted there: a line of words, and behind a write its bytes
@@ -35,7 +36,7 @@ enum { MOST = 4096, LONGEST = 64 };
 static char names[MOST][LONGEST];
 static int log_file = -1;
 static long calls, allocations, failing = -1, refused = -1;
-static const char *how = "eio", *plant = "";
+static const char *how = "eio", *plant = "", *mute = "";
 static char dead[LONGEST];
 static int ready, all_refused;
 
@@ -50,6 +51,8 @@ static void start(void) {
     if (text) refused = atol(text);
     text = getenv("HOSTILE_HOW");
     if (text) how = text;
+    text = getenv("HOSTILE_MUTE");
+    if (text) mute = text;
     text = getenv("HOSTILE_PLANT");
     if (text) plant = text;
     all_refused = getenv("HOSTILE_REST") != NULL;
@@ -98,8 +101,18 @@ static int judged(const char *call, const char *name) {
     if (is_first && !strcmp(how, "kill")) kill(getpid(), SIGKILL);
     if (is_first && !strcmp(how, "dead")) snprintf(dead, LONGEST, "%s", name);
     if (!strcmp(how, "short")) return IS_SHORT;
-    errno = strcmp(how, "enospc") ? EIO : ENOSPC;
+    errno = !strcmp(how, "enospc") ? ENOSPC : !strcmp(how, "eintr") ? EINTR : EIO;
     return FAILS;
+}
+
+/* Whether each read of a file of this name fails. */
+static int is_mute(const char *name) {
+    for (const char *it = mute; *it;) {
+        size_t size = strcspn(it, ",");
+        if (size && !strncmp(name, it, size)) return 1;
+        it += size + (it[size] == ',');
+    }
+    return 0;
 }
 
 static int is_ours(int fd) { return fd >= 0 && fd < MOST && names[fd][0] && fd != 2; }
@@ -185,6 +198,7 @@ static ssize_t read_as(int fd, void *into, size_t count, off_t at, int is_placed
         int fate = judged("read", names[fd]);
         if (fate == FAILS) return -1;
         if (fate == IS_SHORT && count > 1) count = 1;
+        if (is_mute(names[fd])) return errno = EIO, -1;
     }
     return is_placed ? placed(fd, into, count, at) : plain(fd, into, count);
 }

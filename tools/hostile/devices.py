@@ -15,8 +15,8 @@ class Trial:
     def __init__(self, run, how, clean):
         self.run, self.how, self.clean = run, how, clean
 
-    def statuses(self, call, name):
-        """The statuses that are right where this call on this file fails."""
+    def statuses(self, call, name, was_written):
+        """The statuses that are right where this call on this file fails, to which the run had written or not."""
         if self.how == "kill":
             return {KILLED}
         if self.how == "short":
@@ -25,9 +25,15 @@ class Trial:
             return {4}
         if not name.startswith("archive-"):
             return {5} if name == "stdout" else {6}
-        # a read or a write of a session that fails is told by its blocks
-        is_told = call in ("open", "fsync") or self.how == "dead" or not self.run.is_session
-        return {8} if is_told else {0, 1}
+        # an archive to which nothing was written need not be synced
+        if call == "fsync" and not was_written:
+            return {self.clean.status}
+        if call in ("open", "statx", "fsync") or not self.run.is_session:
+            return {8}
+        # a read or a write of a session that fails is told by its blocks, and so is a file that is dead, unless it has to be synced
+        if self.how == "dead":
+            return {8} if was_written else {0, 1, 8}
+        return {0, 1}
 
     def is_text(self, answer, call):
         """Whether what was written is right beside the status."""
@@ -36,17 +42,17 @@ class Trial:
             return answer.out == whole
         if answer.status == 4:
             return answer.out == b""
-        if answer.status in (5, KILLED) or (answer.status == 8 and (call == "open" or not self.run.is_session)):
+        if answer.status in (5, KILLED) or (answer.status == 8 and (call in ("open", "statx") or not self.run.is_session)):
             return whole.startswith(answer.out)
         if answer.status == 6:
             return answer.out in (b"", whole)
         return answer.out == whole if call == "fsync" else True
 
-    def complaints(self, folder, at, call, name):
+    def complaints(self, folder, at, call, name, was_written):
         """What is wrong when the call of this number fails, which is this one on this file."""
         answer = folder.call(self.run.words, self.run.given, fail=at, how=self.how)
         wrong = complaints_at_replies(answer.out, self.run.files | self.run.new) if self.run.is_session else []
-        if answer.status not in self.statuses(call, name) or not self.is_text(answer, call):
+        if answer.status not in self.statuses(call, name, was_written) or not self.is_text(answer, call):
             wrong.append(f"status {answer.status} with {answer.out[-60:]!r}")
         if not answer.tells():
             wrong.append(f"status {answer.status} and on standard error {answer.err[:80]!r}")
@@ -64,10 +70,15 @@ def sweep(run, how, base):
         with Folder(base) as folder:
             clean, lines = folder.copy_of(prepared).noted(run.words, run.given)
         assert run.is_clean(clean), (clean.status, clean.out, clean.err)
-        calls = [name.split(":", 1) for call, name, *_ in lines if call == "begin"]
-        for at, (call, name) in enumerate(calls, 1):
+        calls, written = [], set()
+        for call, name, *_ in lines:
+            if call == "begin":
+                calls.append([*name.split(":", 1), frozenset(written)])
+            elif call == "write":
+                written.add(name)
+        for at, (call, name, before) in enumerate(calls, 1):
             with Folder(base) as folder:
-                found = Trial(run, how, clean).complaints(folder.copy_of(prepared), at, call, name)
+                found = Trial(run, how, clean).complaints(folder.copy_of(prepared), at, call, name, name in before)
             wrong += [f"{run.name}, {call} of {name}, call {at}, fails with {how}: {it}" for it in found]
     return len(calls), wrong
 

@@ -10,6 +10,8 @@ import tempfile
 HERE = pathlib.Path(__file__).resolve().parent
 TOP = HERE.parent.parent
 PROGRAM = TOP / "crates/potshards/out/potshards"
+# The program for people, for what it looks at before a session.
+POTS = TOP / "crates/pots/out/pots"
 # A fault that calls.c feigns, and that is to be found.
 PLANT = None
 
@@ -37,10 +39,14 @@ class Answer:
         self.err = ran.stderr.decode("utf-8", "replace")
 
     def tells(self):
-        """Whether standard error says what the status asks for: its line, or nothing."""
+        """Whether standard error says what the status asks for: its line, or nothing but which archive failed."""
         wanted = ADVICE.get(self.status)
         lines = self.err.splitlines()
-        return any(it.startswith(wanted) for it in lines) if wanted else not lines
+        others = [it for it in lines if not it.startswith("potshards: archive-")]
+        if self.status == 8:
+            # which archive it was
+            return len(others) < len(lines) and any(it.startswith(wanted) for it in others)
+        return any(it.startswith(wanted) for it in others) if wanted else not others
 
 
 class Folder:
@@ -61,15 +67,22 @@ class Folder:
             copy_with_holes(path, self.path / path.name)
         return self
 
-    def call(self, words, given=b"", **hostile):
-        """Calls the program. hostile: fail, how, alloc, rest, log, which calls.c reads."""
+    def call(self, words, given=b"", program=None, before=None, **hostile):
+        """Calls the program, or another one, and before it a function in its process. hostile: fail, how, mute, alloc, rest, log,
+        which calls.c reads."""
         env = {"PATH": os.environ.get("PATH", "")}
         hostile["plant"] = PLANT
         chosen = {f"HOSTILE_{key.upper()}": str(value) for key, value in hostile.items() if value is not None}
         if chosen:
             env.update(chosen, LD_PRELOAD=str(library()))
-        ran = subprocess.run([str(PROGRAM), *words], input=given, cwd=self.path, env=env, capture_output=True, timeout=120)
+        ran = subprocess.run(
+            [str(program or PROGRAM), *words], input=given, cwd=self.path, env=env, capture_output=True, timeout=120, preexec_fn=before
+        )
         return Answer(ran)
+
+    def pots(self, *words, **how):
+        """Calls the program for people."""
+        return self.call(words, program=POTS, **how)
 
     def run(self, script, **hostile):
         return self.call(["run", "--seed", SEED], script, **hostile)

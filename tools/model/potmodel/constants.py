@@ -143,7 +143,7 @@ def weights(target, skip):
 def relay_weights():
     """Rows of weights that a test has: the target, and the slot that is left out."""
     rows = [(0, None), (1, 4), (3, None), (3, 4), (1, 3), (0, 1), (2, 0), (3, 2), (4, None), (4, 3), (4, 1)]
-    return relay_sums() + [(f"weights of a relay of column {target}, without {skip}", "crates/pot_steps/src/tests.rt", weights(target, skip)) for target, skip in rows]
+    return relay_sums() + [(f"weights of a relay of column {target}, without {skip}", "crates/table_tests/src/steps.rt", weights(target, skip)) for target, skip in rows]
 
 
 def relay_sums():
@@ -155,7 +155,7 @@ def relay_sums():
             block ^= field.times(table.coefficients(data)[column - 2], byte)
         total ^= field.times(table.weight_of(Relay(0, 0, 1), column), block)
         sums.append(total)
-    return [("sums of a relay without column 1", "crates/pot_steps/src/tests.rt", bytes(sums).hex())]
+    return [("sums of a relay without column 1", "crates/table_tests/src/steps.rt", bytes(sums).hex())]
 
 
 def mark_values():
@@ -181,7 +181,7 @@ def share_values():
 def generated():
     """The script of the generator for 1."""
     script = generator.script(1)
-    place = "crates/pot_generator/src/tests.rt"
+    place = "crates/word_tests/src/generator.rt"
     return [("length of the generator's script for 1", place, f"{len(script):,}".replace(",", "_")), ("SHA-256 of it", place, pieces.digest(script).hex())]
 
 
@@ -202,9 +202,9 @@ def values():
         ("SHA-256 of no bytes", "crates/pot_object/src/tests.rt", pieces.digest(b"").hex()),
         ("image of 118 bytes, format 2", "docs/FORMATS.md", small_image(2).hex()),
         ("image of 118 bytes, format 1", "docs/FORMATS.md", small_image(1).hex()),
-        ("image of 118 bytes, format 2", "crates/pot_image/src/tests.rt", small_image(2).hex()),
-        ("image of 118 bytes, format 1", "crates/pot_image/src/tests.rt", small_image(1).hex()),
-        ("full image of 1,325 bytes, format 2", "crates/pot_image/src/tests.rt", full_image(2).hex()),
-        ("full image of 923 bytes, format 1", "crates/pot_image/src/tests.rt", full_image(1).hex()),
-        ("empty image of 252 bytes, its trailer", "crates/pot_image/src/tests.rt", empty[-32:].hex()),
+        ("image of 118 bytes, format 2", "crates/table_tests/src/image.rt", small_image(2).hex()),
+        ("image of 118 bytes, format 1", "crates/table_tests/src/image.rt", small_image(1).hex()),
+        ("full image of 1,325 bytes, format 2", "crates/table_tests/src/image.rt", full_image(2).hex()),
+        ("full image of 923 bytes, format 1", "crates/table_tests/src/image.rt", full_image(1).hex()),
+        ("empty image of 252 bytes, its trailer", "crates/table_tests/src/image.rt", empty[-32:].hex()),
     ]

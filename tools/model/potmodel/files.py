@@ -28,6 +28,15 @@ class FileArchive(Archive):
             data = file.read(SLOT)
         return data[1:] if len(data) == SLOT and data[0] == 1 else None
 
+    def kept(self, stripes):
+        """The parity block that is kept behind so many stripes, or None: a 2 and the block."""
+        if not os.path.exists(self.path):
+            return None
+        with open(self.path, "rb") as file:
+            file.seek(stripes * SLOT)
+            data = file.read(SLOT)
+        return data[1:] if len(data) == SLOT and data[0] == 2 else None
+
     def write(self, slot, block):
         """Puts a block into a slot."""
         self.begin_call()
