@@ -1,5 +1,5 @@
 -- What a coalition of columns sees of what sessions left, and what it would see of others.
-use Rattle.std.specs.Prelude.{◌≡◌, ⊥, ℕ, suc, Bool, true, List, [], ◌∷◌, Contains, Some}
+use Rattle.std.specs.Prelude.{◌≡◌, ℕ, suc, Bool, true, List, [], ◌∷◌, Contains, Some}
 use Rattle.std.specs.Prelude.{slice_get}
 use Rattle.pot_bytes.specs.Lists.{IsBlock}
 use Rattle.pot_machine.specs.declared.entry.Entry.{Entry}

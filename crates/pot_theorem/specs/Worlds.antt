@@ -1,5 +1,5 @@
 -- The groups that sessions leave are those that moves of a world lead to.
-use Rattle.std.specs.Prelude.{◌≡◌, ◌++◌, ⊥, ℕ, suc, List, [], ◌∷◌, Contains, Some, length}
+use Rattle.std.specs.Prelude.{◌≡◌, ◌++◌, ℕ, suc, List, [], ◌∷◌, Contains, Some, length}
 use Rattle.std.specs.Prelude.{slice_get}
 use Rattle.pot_machine.specs.declared.entry.Entry.{Entry}
 use Rattle.pot_machine.specs.Machine.{Replays}
