@@ -4,7 +4,8 @@
 //! A line of it is a word, `check`, `drill` or `copy`, the seconds since 1970, and the day, which is
 //! there to be read by people. Other lines are passed over, and left out where it is written.
 
-use crate::dates::{date_text, days_between, now};
+use crate::clock::now;
+use pot_looks::{date_text, days_between};
 use pots_vault::{Stop, Visit, put_file};
 use serde_json::json;
 use std::fs;

@@ -2,20 +2,17 @@
 //! live, when it was last looked at, its shape on paper and as a page, and a desk that is put back.
 //!
 //! It holds no session and starts no thread. Of what it reads, writes and prints nothing is claimed
-//! but safety; the counting and the escaping of text are `pot_looks`.
+//! but safety. The counting, days by the calendar and the lines of text are `pot_looks`.
 #![tactic(auto)]
 
-mod dates;
+mod clock;
 mod habits;
 mod picture;
 mod reading;
 mod restoring;
 mod sheet;
-#[cfg(test)]
-mod tests;
 mod verifying;
 mod where_they_lie;
-mod wrapping;
 
 pub use habits::{Habit, remember, tell_habits};
 pub use picture::page_text;

@@ -1,11 +1,11 @@
 //! The emergency sheet: what is to be known of a vault where nobody is left who knows it, in lines
 //! of at most 72 columns.
 
-use crate::dates::{date_text, now};
+use crate::clock::now;
 use crate::where_they_lie::{Row, rows};
-use crate::wrapping::append_paragraph;
 use pot_bytes::{Geometry, Rack, digest_of};
 use pot_image::{Image, read_image};
+use pot_looks::{append_paragraph, date_text};
 use pot_report::{Room, Size, digest_text, kept_files, places_of};
 use pots_sites::{place_word, places_here};
 use pots_vault::{Stop, Visit, image_bytes};

@@ -3,7 +3,7 @@
 use std::alloc::AllocError;
 
 /// The most columns of a line.
-pub const WIDTH: usize = 72;
+const WIDTH: usize = 72;
 
 /// Adds a paragraph, in lines of at most 72 columns. From the second on they begin with the indent,
 /// which is shorter than that. A word that is longer is cut.

@@ -1,24 +1,15 @@
 //! Days as people write them.
+ghost use Rattle.std.specs.Prelude.{◌≡◌, ◌-◌, ◌/◌};
 
 use std::alloc::{AllocError, Global};
-use std::time::SystemTime;
 
 /// The seconds of a day.
 const DAY: u64 = 86_400;
 
-/// The seconds since 1970 by the clock of the system, and 0 where it has none.
-pub fn now(rt: &HostRuntime) -> u64 {
-    match SystemTime::now(rt) {
-        Ok(time) => match time.duration_since(SystemTime::UNIX_EPOCH) {
-            Ok(since) => since.as_secs(),
-            Err(_) => 0,
-        },
-        Err(_) => 0,
-    }
-}
-
 /// How many whole days lie between two moments.
-pub fn days_between(from: u64, to: u64) -> u64 {
+pub fn days_between(from: u64, to: u64) -> u64
+    ensures { result ≡ (to - from) / 86400 }
+{
     to.saturating_sub(from) / DAY
 }
 
