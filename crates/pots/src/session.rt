@@ -13,7 +13,10 @@ use pots_shares::lay_shares;
 use pots_vault::{MOST_TOGETHER, Stop, Visit, image, tell_losses};
 use std::alloc::{AllocError, Global};
 use std::sync::Wait;
-use std::thread::Threads;
+use std::thread::{Threads, available_parallelism};
+
+/// The most workers of a session.
+const MOST_WORKERS: usize = 16;
 
 /// What a call of `run` wrote, and its status.
 #[derive(Drop)]
@@ -76,7 +79,9 @@ pub fn work<X: Threads + Wait + Sync>(
 ) -> Result<Vec<Reply>, Stop> {
     commands.push(Command::List)?;
     let script = script_of(visit.alloc(), commands)?;
-    let words = words_of(visit.alloc(), "run --careful yes")?;
+    let workers = workers(turns);
+    let line = format!(in visit.alloc(); "run --careful yes --workers {workers}")?;
+    let words = words_of(visit.alloc(), line.as_str())?;
     let ran = call(turns, visit, &words, script)?;
     if ran.status > 1 {
         return Err(ended(visit, &ran));
@@ -90,6 +95,15 @@ pub fn work<X: Threads + Wait + Sync>(
             5,
             "the replies of the session were not understood: pots and potshards are of different versions",
         )),
+    }
+}
+
+// As many workers as there are processors that the program may use, and at most as many as a session
+// may have. Where the system does not say how many there are, a session has 4, as by default.
+fn workers(turns: &impl Threads) -> usize {
+    match available_parallelism(turns) {
+        Ok(count) => count.get().min(MOST_WORKERS),
+        Err(_) => 4,
     }
 }
 
