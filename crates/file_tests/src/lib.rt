@@ -14,4 +14,6 @@ mod rescue;
 #[cfg(test)]
 mod safe_desk;
 #[cfg(test)]
+mod standing;
+#[cfg(test)]
 mod tree;

@@ -5,11 +5,13 @@
 //! write in it.
 
 pub mod adding;
+pub mod catalog;
 pub mod entering;
 pub mod evacuating;
 pub mod finding;
 pub mod going;
 pub mod held;
+pub mod listing;
 pub mod placing;
 pub mod putting;
 pub mod rewording;
@@ -22,6 +24,7 @@ use crate::racks::adding::work_racks;
 use crate::racks::entering::Home;
 use crate::racks::evacuating::evacuate;
 use crate::racks::going::over_each;
+use crate::racks::listing::{list, list_snapshot};
 use crate::racks::placing::{bring_place, tell_totals};
 use crate::racks::rewording::look_at_racks;
 use crate::racks::searching::{diff, find};
@@ -62,15 +65,15 @@ pub fn work<X: Threads + Wait + Sync>(
         Verb::Find => find(turns, &visit, asked)?,
         Verb::Diff => diff(turns, &visit, asked)?,
         Verb::Evacuate => evacuate(turns, &visit, asked)?,
-        Verb::List if words.contains_id("NAME") => by_snapshot(turns, &visit, asked)?,
+        Verb::List if words.contains_id("NAME") => list_snapshot(turns, &visit, asked)?,
         Verb::Place if words.contains_id("FOLDER") => place(turns, &visit, asked)?,
         Verb::Status => {
             let status = over_each(turns, &visit, asked)?;
             tell_totals(&visit, asked.home)?;
             status
         }
-        Verb::List
-        | Verb::Check
+        Verb::List => list(turns, &visit, asked)?,
+        Verb::Check
         | Verb::Repair
         | Verb::Verify
         | Verb::Audit

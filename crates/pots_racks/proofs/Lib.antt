@@ -1,1 +1,3 @@
+pub mod CatalogLemmas
+pub mod SectionLemmas
 pub mod TextLemmas

@@ -23,6 +23,7 @@ mod new_file;
 mod numbers;
 mod progress;
 mod sampling;
+mod standing;
 mod stop;
 mod twins;
 mod unread;
@@ -45,5 +46,6 @@ pub use lying::{
 pub use new_file::{open_to_read, put_file, sync_folder_of};
 pub use numbers::{MOST_ARCHIVES, ranges_text, read_number};
 pub use progress::Progress;
+pub use standing::{DeskStanding, desk_standing};
 pub use stop::{Stop, UNREAD, refuse};
 pub use visit::{Visit, listed_archives, number_in};

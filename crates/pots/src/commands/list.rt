@@ -54,22 +54,32 @@ pub fn work<X: Threads + Wait + Sync>(
 // Lists the files that are stored.
 fn list_files(visit: &mut Visit, all: bool) -> Result<u8, Stop> {
     let image = image(visit)?;
-    let rt = &visit.rt;
     if image.records.is_empty() {
-        let _ = eprintln!(rt; "pots: nothing is stored yet");
+        tell_nothing(&visit.rt);
     }
     for (name, kept) in kept_files(visit.alloc(), &image)?.iter() {
-        if all {
-            tell_stored(visit, name, kept)?;
-        } else if is_pack(name) {
-            continue;
-        } else if let Some(snapshot) = Snapshot::read(*name) {
-            tell_snapshot(visit, &snapshot, kept)?;
-        } else {
-            tell_stored(visit, name, kept)?;
-        }
+        tell_kept(visit, all, (name, kept))?;
     }
     Ok(0)
+}
+
+/// Tells that nothing is stored yet.
+pub fn tell_nothing(rt: &HostRuntime) {
+    let _ = eprintln!(rt; "pots: nothing is stored yet");
+}
+
+/// Tells a file or a snapshot that is stored. Of packs and lists nothing is told, unless all are to
+/// be.
+pub fn tell_kept(visit: &Visit, all: bool, (name, kept): (&Name, &Kept)) -> Result<(), Stop> {
+    if all {
+        tell_stored(visit, name, kept)
+    } else if is_pack(name) {
+        Ok(())
+    } else if let Some(snapshot) = Snapshot::read(*name) {
+        tell_snapshot(visit, &snapshot, kept)
+    } else {
+        tell_stored(visit, name, kept)
+    }
 }
 
 fn tell_stored(visit: &Visit, name: &Name, kept: &Kept) -> Result<(), Stop> {

@@ -17,10 +17,11 @@ pub fn rack_of(racks: &[Held], text: &str) -> Option<u32> {
     None
 }
 
-/// The rack that has the newest snapshot of a name, or the newest at a date.
+/// The rack that has the newest snapshot of a name, or the newest at a date, of the snapshots of
+/// racks.
 pub fn rack_of_snapshot(
     visit: &Visit,
-    racks: &[Held],
+    all: &[(u32, Snapshot)],
     name: &str,
     at: Option<&str>,
 ) -> Result<Option<u32>, Stop> {
@@ -29,16 +30,13 @@ pub fn rack_of_snapshot(
         None => None,
     };
     let mut found: Option<(u32, Snapshot)> = None;
-    for held in racks {
-        for stored in held.snapshots.iter() {
-            let snapshot = stored.snapshot;
-            let is_at = match &date {
-                Some(date) => snapshot.is_at(date.as_str()),
-                None => true,
-            };
-            if is_at && snapshot.name() == name && is_newer(&snapshot, &found) {
-                found = Some((held.rack, snapshot));
-            }
+    for (rack, snapshot) in all {
+        let is_at = match &date {
+            Some(date) => snapshot.is_at(date.as_str()),
+            None => true,
+        };
+        if is_at && snapshot.name() == name && is_newer(snapshot, &found) {
+            found = Some((*rack, *snapshot));
         }
     }
     Ok(found.map(|(rack, _)| rack))

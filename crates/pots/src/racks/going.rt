@@ -34,8 +34,8 @@ pub fn work_in<X: Threads + Wait + Sync>(
     Ok(status)
 }
 
-// Tells in which rack a command did not come to a good end.
-fn tell_ended(visit: &Visit, home: &Home, rack: u32, status: u8) -> Result<(), Stop> {
+/// Tells in which rack a command did not come to a good end.
+pub fn tell_ended(visit: &Visit, home: &Home, rack: u32, status: u8) -> Result<(), Stop> {
     let rt = &visit.rt;
     let path = home.path(visit.alloc(), rack)?;
     let _ = eprintln!(rt;

@@ -5,6 +5,7 @@ use crate::snapshots::{Stored, snapshots};
 use pot_bytes::Name;
 use pot_image::Image;
 use pot_report::Room;
+use pots_folders::Snapshot;
 use pots_vault::{Known, Stop, Visit, image};
 use std::alloc::{AllocError, Global};
 
@@ -76,6 +77,17 @@ fn held_by(visit: &Visit, rack: u32, image: Image) -> Result<Held, Stop> {
         room,
         snapshots,
     })
+}
+
+/// The snapshots of racks whose lists are there, each with the number of its rack.
+pub fn all_snapshots(alloc: Global, racks: &[Held]) -> Result<Vec<(u32, Snapshot)>, AllocError> {
+    let mut all = Vec::new(alloc);
+    for held in racks {
+        for stored in held.snapshots.iter() {
+            all.push((held.rack, stored.snapshot))?;
+        }
+    }
+    Ok(all)
 }
 
 /// Tells that the desk of a rack cannot be read.

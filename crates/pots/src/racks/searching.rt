@@ -5,10 +5,11 @@ use crate::commands::find::{search, tell_none};
 use crate::racks::Asked;
 use crate::racks::finding::rack_of_snapshot;
 use crate::racks::going::{joined, work_in};
-use crate::racks::held::{Held, readable, tell_unread};
+use crate::racks::held::{all_snapshots, readable, tell_unread};
 use crate::racks::rewording::{append, common_words};
 use crate::snapshots::{Stored, asked_snapshot, entries_of};
 use pot_tree::Entry;
+use pots_folders::Snapshot;
 use pots_racks::part_for;
 use pots_vault::{Stop, Visit, image};
 use std::sync::Wait;
@@ -78,9 +79,10 @@ fn own_visit(visit: &Visit, asked: &Asked, rack: u32) -> Result<Visit, Stop> {
 /// Tells what differs between two snapshots of a name, each in the rack that has it.
 pub fn diff<X: Threads + Wait + Sync>(turns: &X, visit: &Visit, asked: &Asked) -> Result<u8, Stop> {
     let (racks, unread) = readable(visit, asked.home)?;
-    let from = rack_at(visit, asked, (&racks, "DATE1"))?;
-    let to = rack_at(visit, asked, (&racks, "DATE2"))?;
+    let all = all_snapshots(visit.alloc(), &racks)?;
     drop(racks);
+    let from = rack_at(visit, asked, (&all, "DATE1"))?;
+    let to = rack_at(visit, asked, (&all, "DATE2"))?;
     let status = if from == to {
         let line = line_of(visit, asked, from)?;
         work_in(turns, visit, asked.home, (from, line.as_slice()))?
@@ -94,9 +96,13 @@ pub fn diff<X: Threads + Wait + Sync>(turns: &X, visit: &Visit, asked: &Asked) -
 }
 
 // The rack of the newest snapshot at the date that a word gives.
-fn rack_at(visit: &Visit, asked: &Asked, (racks, word): (&[Held], &str)) -> Result<u32, Stop> {
+fn rack_at(
+    visit: &Visit,
+    asked: &Asked,
+    (all, word): (&[(u32, Snapshot)], &str),
+) -> Result<u32, Stop> {
     let name = asked.words.get_str("NAME").unwrap_or("");
-    match rack_of_snapshot(visit, racks, name, asked.words.get_str(word))? {
+    match rack_of_snapshot(visit, all, name, asked.words.get_str(word))? {
         Some(rack) => Ok(rack),
         None => {
             let line = format!(in visit.alloc();

@@ -3,9 +3,10 @@
 use crate::racks::Asked;
 use crate::racks::finding::{rack_of, rack_of_snapshot};
 use crate::racks::going::{joined, over_each, work_in};
-use crate::racks::held::{Held, readable};
+use crate::racks::held::{Held, all_snapshots, readable};
 use crate::racks::rewording::{append, common_words};
 use crate::verbs::Verb;
+use pots_folders::Snapshot;
 use pots_vault::{Stop, Visit};
 use std::collections::BTreeSet;
 use std::fs;
@@ -28,17 +29,22 @@ pub fn fetch<X: Threads + Wait + Sync>(
         return fetch_all(turns, visit, asked);
     }
     let (racks, unread) = readable(visit, asked.home)?;
-    if is_told || is_snapshot(visit, &racks, names)? {
-        return take_snapshot(turns, visit, asked, (&racks, unread));
+    let all = all_snapshots(visit.alloc(), &racks)?;
+    if is_told || is_snapshot(visit, (&racks, &all), names)? {
+        return take_snapshot(turns, visit, asked, (&all, unread));
     }
     take_names(turns, visit, asked, (&racks, unread))
 }
 
 // Whether the one name is that of a snapshot, and of no file.
-fn is_snapshot(visit: &Visit, racks: &[Held], names: &[&str]) -> Result<bool, Stop> {
+fn is_snapshot(
+    visit: &Visit,
+    (racks, all): (&[Held], &[(u32, Snapshot)]),
+    names: &[&str],
+) -> Result<bool, Stop> {
     match names.first() {
         Some(name) if names.len() == 1 && rack_of(racks, name).is_none() => {
-            Ok(rack_of_snapshot(visit, racks, name, None)?.is_some())
+            Ok(rack_of_snapshot(visit, all, name, None)?.is_some())
         }
         _ => Ok(false),
     }
@@ -159,14 +165,17 @@ pub fn by_snapshot<X: Threads + Wait + Sync>(
     asked: &Asked,
 ) -> Result<u8, Stop> {
     let (racks, unread) = readable(visit, asked.home)?;
-    take_snapshot(turns, visit, asked, (&racks, unread))
+    let all = all_snapshots(visit.alloc(), &racks)?;
+    take_snapshot(turns, visit, asked, (&all, unread))
 }
 
-fn take_snapshot<X: Threads + Wait + Sync>(
+/// Works a command on the newest snapshot of a name, of these snapshots of racks. So many racks
+/// more could not be read.
+pub fn take_snapshot<X: Threads + Wait + Sync>(
     turns: &X,
     visit: &Visit,
     asked: &Asked,
-    (racks, unread): (&[Held], u32),
+    (all, unread): (&[(u32, Snapshot)], u32),
 ) -> Result<u8, Stop> {
     let alloc = visit.alloc();
     let words = asked.words;
@@ -176,7 +185,7 @@ fn take_snapshot<X: Threads + Wait + Sync>(
         _ => return Err(visit.refuse(2, "--at and --path are of one snapshot: give one name")),
     };
     look_at_goal(visit, asked)?;
-    let Some(rack) = rack_of_snapshot(visit, racks, name, words.get_str("at"))? else {
+    let Some(rack) = rack_of_snapshot(visit, all, name, words.get_str("at"))? else {
         let line = format!(in alloc;
             "there is no snapshot {name} of that date or before in the racks that can be read: pots list tells which there are"
         )?;

@@ -1,4 +1,4 @@
-use Rattle.std.proofs.Common.{◌≡◌, ◌+◌, ◌++◌, ℕ, List, ap, ap₂, sym, ◌∙◌, arith}
+use Rattle.std.proofs.Common.{◌≡◌, ◌++◌, ℕ, List, ap, ap₂, sym, ◌∙◌, arith}
 use Rattle.pots_racks.specs.Racks.{head, tail, lines}
 use Rattle.pots_racks.proofs.TextLemmas.{lines_next, lines_none, text_is}
 use Rattle.pots_racks.proofs.vault_file.vault_text.Goals as goal
