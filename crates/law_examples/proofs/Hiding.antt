@@ -1,32 +1,31 @@
 -- A stored file, as who has one of its two fragments sees it.
-use Rattle.std.proofs.Common.{◌≡◌, ℕ, zero, suc, ◌<◌, ◌≤◌, List, [], ◌∷◌, ◌++◌, ◌+◌, ◌*◌, Option, Some, None, true, false, refl, sym, ap, subst, arith, Bool, ◌∙◌, length}
-use Rattle.std.specs.Prelude.{slice_get, slice_index_or, Contains, IsSomeAnd, All}
+use Rattle.std.proofs.Common.{◌≡◌, ℕ, zero, suc, ◌<◌, ◌≤◌, List, [], ◌∷◌, ◌++◌, ◌+◌, ◌*◌, Option, Some, true, false, refl, sym, ap, subst, arith, Bool, ◌∙◌}
+use Rattle.std.specs.Prelude.{slice_get, slice_index_or, IsSomeAnd, All}
 use Rattle.std.proofs.lemmas.Option.{none-some, same_Some}
 use Rattle.std.proofs.lemmas.List.Elements.{All-cons, All-contains, All-nil}
 use Rattle.pot_bytes.specs.Lists.{AreBytes}
 use Rattle.pot_machine.specs.Table.{count, least}
 use Rattle.pot_shard.specs.FileLaws.{IsStore}
-use Rattle.pot_shard.specs.Places.{PlaceLaws, block_in}
-use Rattle.pot_index.specs.declared.record.Record.{Record}
+use Rattle.pot_shard.specs.Places.{PlaceLaws}
 use Rattle.pot_index.specs.declared.record.Split.{Split}
 use Rattle.pot_index.specs.Fits.{FitsRack}
 use Rattle.pot_world.specs.declared.step.Step.{Step}
 use Rattle.pot_world.specs.declared.step.Step.TheVariants as step
-use Rattle.pot_world.specs.Audit.{AllSame, SeesSame, Sight, One, group_in, seen_steps, sight_of}
-use Rattle.pot_world.specs.Explains.{AllEndWell, SeenSame}
+use Rattle.pot_world.specs.Audit.{AllSame, SeesSame, Sight, One, seen_steps, sight_of}
+use Rattle.pot_world.specs.Explains.{AllEndWell}
 use Rattle.pot_world.specs.Forward.{will_publish}
 use Rattle.pot_world.specs.Group.{WorldGroup, put_within}
 use Rattle.pot_world.specs.Reached.{at_group, first_groups}
-use Rattle.pot_world.specs.World.{UnderWay, World, Runs, blocks_of, first_world, group_at, made, next_block, no_group, put_block, put_step, record_made}
+use Rattle.pot_world.specs.World.{UnderWay, World, Runs, first_world, group_at, next_block, no_group, put_block, put_step, record_made}
 use Rattle.pot_world.specs.Worlds.{RunReplays}
 use Rattle.pot_audit.specs.declared.veil.Veil.{Veil}
-use Rattle.pot_audit.specs.Exposure.{exposed_points, has_column}
+use Rattle.pot_audit.specs.Exposure.{has_column}
 use Rattle.pot_audit.specs.Hiding.{AreHidden, AuditsHide, BytesReturn}
 use Rattle.pot_audit.specs.Veils.{AreVeils, IsVeil}
 use Rattle.law_examples.specs.Sessions.{rack}
 use Rattle.law_examples.specs.Stored.{file, geometry, name, stores}
 use Rattle.law_examples.specs.Audited.{BytesComeBack, HolderSeesTheSame, other_file, split, spots}
-use Rattle.law_examples.proofs.Seeing.{is_rack, of_first, one, two}
+use Rattle.law_examples.proofs.Seeing.{is_rack, one, two}
 use Rattle.law_examples.proofs.Storing.{begun_world, block, block_0, block_1, first_way, half_way, half_world, second_way, store_goes, stored_world, under_way, whole}
 
 -- WHAT THE HOLDER HAS

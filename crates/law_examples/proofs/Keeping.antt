@@ -1,24 +1,22 @@
 -- A stripe whose parity block was lost.
-use Rattle.std.proofs.Common.{◌≡◌, ℕ, zero, suc, ◌<◌, ◌≤◌, List, [], ◌∷◌, Option, Some, None, true, false, refl, sym, ap, subst, arith, ◌∙◌, ◌⊎◌, inl, inr}
+use Rattle.std.proofs.Common.{◌≡◌, ℕ, zero, suc, ◌<◌, ◌≤◌, List, [], ◌∷◌, Option, Some, None, refl, sym, ap, subst, arith, ◌∙◌, ◌⊎◌, inl}
 use Rattle.std.specs.Prelude.{◌≢◌}
 use Rattle.pot_bytes.specs.declared.digest.Digest.{Digest}
 use Rattle.pot_bytes.specs.Digests.{digest_of}
-use Rattle.pot_bytes.specs.Lists.{IsBlock}
 use Rattle.pot_bytes.specs.Totals.{total}
 use Rattle.pot_machine.specs.declared.relay.Relay.{Relay}
-use Rattle.pot_machine.specs.declared.slot.SlotState.{SlotState}
-use Rattle.pot_machine.specs.declared.slot.SlotState.TheVariants.{Void, Live, Lost, Broken}
+use Rattle.pot_machine.specs.declared.slot.SlotState.TheVariants.{Live, Lost, Broken}
 use Rattle.pot_machine.specs.Slot.{digest_in}
 use Rattle.pot_machine.specs.Table.{count, least, relay_at}
 use Rattle.pot_steps.specs.Equations.{p_weight, sum_at}
 use Rattle.pot_steps.specs.Holdings.{stripe_of}
 use Rattle.pot_steps.specs.Law.{StripeLaw}
 use Rattle.pot_steps.specs.Stripe.{Stripe, NoneBroken}
-use Rattle.pot_world.specs.Group.{WorldGroup, look, lose, mend, put, put_within}
+use Rattle.pot_world.specs.Group.{WorldGroup, lose, mend, put, put_within}
 use Rattle.pot_world.specs.Kept.{IsKept}
-use Rattle.pot_world.specs.Laws.{KeptHolds, LookKeeps, LoseKeeps, MendKeeps, PutKeeps}
+use Rattle.pot_world.specs.Laws.{KeptHolds, LookKeeps, LoseKeeps, MendKeeps, PutKeepsWorld}
 use Rattle.pot_world.specs.Reached.{EachGroup, ReachedKeeps, Reaches, at_group, first_group, first_groups, first_site}
-use Rattle.law_examples.specs.Kept.{HasParity, StripeKeepsParity, looked, three}
+use Rattle.law_examples.specs.Kept.{StripeKeepsParity, looked, three}
 use Rattle.law_examples.specs.Sessions.{rack}
 use Rattle.law_examples.proofs.Seeing.{is_rack, two}
 
@@ -51,7 +49,7 @@ parity_of s relay x b d s0 s1 s2 h0 h1 some law =
     none_broken (suc (suc zero)) e l = λ p. lost d e (sym s2 ∙ p)
     none_broken (suc (suc (suc c))) e l = absurd (omega (arith, l))
 
-pub keeps : ReachedKeeps → PutKeeps → LoseKeeps → LookKeeps → MendKeeps → KeptHolds → StripeKeepsParity
+pub keeps : ReachedKeeps → PutKeepsWorld → LoseKeeps → LookKeeps → MendKeeps → KeptHolds → StripeKeepsParity
 unfolding EachGroup Reaches first_groups put_within least count at_group
 keeps reach puts loses looks mends holds x b blind ix ib il =
     let first : IsKept (first_group rack 0) = (reach rack [] (first_site rack) is_rack refl).0.0 in

@@ -5,7 +5,7 @@ use Rattle.pot_shard.specs.FileLaws.{IsStore}
 use Rattle.pot_shard.specs.Places.{PlaceLaws}
 use Rattle.pot_veil.specs.Veiled.{IsVeiledSplit, IsVeiledStore, VeilLaws}
 use Rattle.pot_world.specs.declared.step.Step.TheVariants as step
-use Rattle.pot_world.specs.Forward.{HasSplit, PlacesPublished, SplitsStay, will_publish}
+use Rattle.pot_world.specs.Forward.{HasSplit, PlacesPublished, PublishedSplitsStay, will_publish}
 use Rattle.pot_world.specs.Group.{put_within}
 use Rattle.pot_world.specs.Reached.{EachGroup, at_group, first_groups}
 use Rattle.pot_world.specs.World.{Runs, first_world, record_made}
@@ -55,7 +55,7 @@ loss_run : (random : List ℕ) → Runs (step.Lose 0 0 ∷ []) (stored_world ran
 unfolding Runs
 loss_run random = (tt, refl)
 
-pub split_stays : PlaceLaws → SplitsStay → SplitStays
+pub split_stays : PlaceLaws → PublishedSplitsStay → SplitStays
 split_stays laws law random is =
     (lost_world random, lost_run laws random is, law rack (stores random) (step.Lose 0 0 ∷ []) (stored_world random) (lost_world random) name file random 0 split is_rack (store_run laws random is) (loss_run random) (has_split random))
 

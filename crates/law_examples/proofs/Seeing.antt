@@ -1,25 +1,22 @@
 -- Two sessions, as who has one column sees them.
-use Rattle.std.proofs.Common.{◌≡◌, ℕ, zero, suc, ◌<◌, ◌≤◌, List, [], ◌∷◌, Option, Some, None, true, false, refl, arith, ap, Bool, ◌∙◌, ◌&&◌, nat_eq, if◌then◌else◌}
-use Rattle.std.specs.Prelude.{slice_index_or, Contains}
+use Rattle.std.proofs.Common.{◌≡◌, ℕ, ◌<◌, ◌≤◌, List, [], ◌∷◌, Option, Some, None, true, false, refl, arith, ap, Bool, ◌∙◌, ◌&&◌, nat_eq, if◌then◌else◌}
+use Rattle.std.specs.Prelude.{slice_index_or}
 use Rattle.pot_bytes.specs.Lists.{IsBlock}
 use Rattle.pot_bytes.specs.Product.{byte_product, coefficient, polynomial_product, remainder}
 use Rattle.pot_bytes.specs.Rack.{IsRack}
-use Rattle.pot_bytes.specs.Sums.{xor}
-use Rattle.pot_bytes.specs.Weighted.{scaled}
 use Rattle.pot_bytes.specs.Totals.{total}
 use Rattle.pot_gf.specs.Field.{power}
 use Rattle.pot_machine.specs.Table.{count, least}
 use Rattle.pot_steps.specs.Equations.{p_weight, q_weight}
 use Rattle.pot_steps.specs.Flight.{left_out, p_times, q_times, weight}
-use Rattle.pot_world.specs.Group.{WorldGroup, put, put_within}
+use Rattle.pot_world.specs.Group.{WorldGroup, put_within}
 use Rattle.pot_world.specs.Audit.{AllFits, AllSame, RunsSeenSame, SeesSame, Sight, SightsFit, One, Whole, group_in, other_moves, sight_of}
-use Rattle.pot_world.specs.Coalition.{Served}
-use Rattle.pot_world.specs.Later.{Sessions, SessionsFit, SessionsSeenSame, reopened_site}
+use Rattle.pot_world.specs.Later.{Sessions, SessionsFit, SessionsSeenSame}
 use Rattle.pot_world.specs.Acts.{PutNext}
 use Rattle.pot_world.specs.Reached.{IsAllowedAt, Makes, Reaches, Site, at_group, first_groups, first_site, moved}
 use Rattle.pot_world.specs.World.{no_group}
-use Rattle.pot_world.specs.Remains.{HasPlacedAt, PlacesRemain, PutsAt}
-use Rattle.law_examples.specs.Sessions.{BlockRemains, ColumnSeesTheSame, ParitySeesTheSame, Sees, has, has_parity, mends, rack, stores, two_stores, uses}
+use Rattle.pot_world.specs.Remains.{HasPlacedAt, PlacesRemain, PutAnswersPlace}
+use Rattle.law_examples.specs.Sessions.{BlockRemains, ColumnSeesTheSame, ParitySeesTheSame, has, has_parity, mends, rack, stores, two_stores, uses}
 
 pub is_rack : IsRack rack
 is_rack = record {
@@ -127,7 +124,7 @@ use_run x b blind ix ib il = (_, (ib, (tt, ((two, two_width), ((two, two_width, 
     two_width = omega arith
 
 pub remains : PlacesRemain → BlockRemains
-unfolding HasPlacedAt PutsAt Reaches IsAllowedAt at_group first_groups put_within least count use_run
+unfolding HasPlacedAt PutAnswersPlace Reaches IsAllowedAt at_group first_groups put_within least count use_run
 remains law x b blind ix ib il =
     let run = use_run x b blind ix ib il in
     let a = law rack [] (uses b blind) (first_site rack) run.0 0 1 0 0 x is_rack refl ix refl run.1 in

@@ -1,5 +1,5 @@
 -- A store of a file of one byte, the loss of its first block, and a fetch of it.
-use Rattle.std.proofs.Common.{◌≡◌, ℕ, zero, suc, ◌<◌, ◌≤◌, List, [], ◌∷◌, ◌++◌, Option, Some, None, true, false, refl, sym, ap, subst, arith, Bool, ◌∙◌, ◌⊎◌, inl, inr, ◌-◌, nat_eq, length, IsTrue}
+use Rattle.std.proofs.Common.{◌≡◌, ℕ, zero, suc, ◌<◌, ◌≤◌, List, [], ◌∷◌, ◌++◌, Option, Some, None, true, false, refl, sym, ap, subst, arith, ◌∙◌, ◌⊎◌, inl, inr, ◌-◌, nat_eq, length}
 use Rattle.std.specs.Prelude.{slice_get, Contains, IsSomeAnd, ◌≢◌, ◌↔◌}
 use Rattle.std.specs.Cmp.{nat_eq_equiv}
 use Rattle.std.proofs.lemmas.Option.{same_Some}
@@ -9,12 +9,10 @@ use Rattle.pot_bytes.specs.Digests.{digest_of}
 use Rattle.pot_bytes.specs.declared.rack.Place.{Place}
 use Rattle.pot_bytes.specs.Lists.{IsBlock}
 use Rattle.pot_bytes.proofs.Elements.{one_contained}
-use Rattle.pot_bytes.specs.Rack.{IsRack}
-use Rattle.pot_machine.specs.declared.slot.SlotState.{SlotState}
 use Rattle.pot_machine.specs.declared.slot.SlotState.TheVariants.{Void, Live, Broken}
 use Rattle.pot_machine.specs.Table.{count, least}
-use Rattle.pot_steps.specs.Stripe.{Stripe, Sound, IsSound, NoneBroken}
-use Rattle.pot_steps.specs.Law.{FewUnsound, FindsUnsound, Rebuildable}
+use Rattle.pot_steps.specs.Stripe.{Stripe, Sound}
+use Rattle.pot_steps.specs.Law.{FindsUnsound, Rebuildable}
 use Rattle.pot_shard.specs.FileBlocks.{file_blocks}
 use Rattle.pot_shard.specs.FileLaws.{IsStore}
 use Rattle.pot_shard.specs.Places.{PlaceLaws, block_in, place_at}
@@ -25,8 +23,8 @@ use Rattle.pot_world.specs.Bounds.{FixedIn}
 use Rattle.pot_world.specs.Group.{WorldGroup, look, mend, put_within, sound_block}
 use Rattle.pot_world.specs.Reached.{at_group, first_groups}
 use Rattle.pot_world.specs.Remains.{HasPlacedAt}
-use Rattle.pot_world.specs.World.{UnderWay, World, Runs, Gathered, FragmentGathered, HasGathered, blocks_of, first_world, group_at, made, next_block, put_block, put_step, record_made, store_begun}
-use Rattle.pot_world.specs.Worlds.{Gives, Paired, OneBlock, RunFetches, RunGathers, RunJoins, RunMends, RunWrites}
+use Rattle.pot_world.specs.World.{UnderWay, World, Runs, Gathered, FragmentGathered, blocks_of, first_world, group_at, made, next_block, put_block, put_step, record_made, store_begun}
+use Rattle.pot_world.specs.Worlds.{GatheredGive, Paired, OneBlock, RunFetches, RunGathers, RunJoins, RunMends, RunWrites}
 use Rattle.law_examples.specs.Sessions.{rack}
 use Rattle.law_examples.specs.Stored.{FetchGivesFile, GatheredIsBlock, LossIsMended, StoreIsWritten, fetches, file, geometry, loses, mended, name, place_in, stores}
 use Rattle.law_examples.proofs.Seeing.{is_rack, one, two}
@@ -234,8 +232,8 @@ gives laws joins law random is =
     let r = record_made (whole random) in
     let found : ((fetched_world random).actors 2).found ≡ Some r = refl in
     let joined = joins rack (fetches random) (fetched_world random) is_rack run 2 r found (has_gathered random) in
-    let alone : (other : List ℕ) → Gives r ((fetched_world random).actors 2).gathered other → other ≡ file = λ other h. law rack (fetches random) (fetched_world random) is_rack run 2 r other found h in
-    (fetched_world random, run, record { found = r; is = found; gives = subst (λ (f : List ℕ). Gives r ((fetched_world random).actors 2).gathered f) (alone joined.0 joined.1) joined.1; alone = alone })
+    let alone : (other : List ℕ) → GatheredGive r ((fetched_world random).actors 2).gathered other → other ≡ file = λ other h. law rack (fetches random) (fetched_world random) is_rack run 2 r other found h in
+    (fetched_world random, run, record { found = r; is = found; gives = subst (λ (f : List ℕ). GatheredGive r ((fetched_world random).actors 2).gathered f) (alone joined.0 joined.1) joined.1; alone = alone })
 
 pub gathered_is : PlaceLaws → RunWrites → RunGathers → OneBlock → GatheredIsBlock
 unfolding Paired put_within least count at_group first_groups

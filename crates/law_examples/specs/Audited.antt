@@ -1,7 +1,6 @@
 -- The file of one byte, as who has column 0 of group 1 sees it: the block of its second fragment,
 -- and none of the first.
 use Rattle.std.specs.Prelude.{◌≡◌, ℕ, Some, List, [], ◌∷◌}
-use Rattle.pot_bytes.specs.declared.rack.Place.{Place}
 use Rattle.pot_shard.specs.FileLaws.{IsStore}
 use Rattle.pot_shard.specs.Places.{block_in}
 use Rattle.pot_index.specs.declared.record.Split.{Split}

@@ -5,7 +5,7 @@ use Rattle.pot_shard.specs.FileLaws.{IsStore}
 use Rattle.pot_shard.specs.Places.{block_in}
 use Rattle.pot_veil.specs.Veiled as veil
 use Rattle.pot_veil.specs.Veiled.{explained_split}
-use Rattle.pot_index.specs.Index.{Replays, names_read}
+use Rattle.pot_index.specs.Index.{ReplaysIndex, names_read}
 use Rattle.pot_world.specs.declared.step.Step.{Step}
 use Rattle.pot_world.specs.declared.step.Step.TheVariants as step
 use Rattle.pot_world.specs.Forward.{HasSplit, WasPublished, number_of}
@@ -52,7 +52,7 @@ pub record IsReplayed (v : World) : Type 0 where
   pub first : machine.Replays (group_at v 0).first (group_at v 0).state.log
       (group_at v 0).state.table
   pub none_odd : NoneOddly (group_at v 1).state.log
-  pub index : Replays rack (names_read []) v.index.log v.index.now
+  pub index : ReplaysIndex rack (names_read []) v.index.log v.index.now
 
 abbrev pub StoreIsReplayed : Type 0
 StoreIsReplayed =

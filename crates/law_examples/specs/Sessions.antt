@@ -38,7 +38,7 @@ mends blind r s =
     ∷ Makes 0 (Mend 2 0 2 s) ∷ []
 
 -- Archive 1 holds b, and has heard one sum: the blind and the block of column 0.
-pub record Sees (x b blind : List ℕ) (w : Site) : Type 0 where
+pub record SeesBlind (x b blind : List ℕ) (w : Site) : Type 0 where
   pub held : (group_in w 0).state.held 1 0 ≡ Some b
   pub heard : (group_in w 0).state.heard 1 ≡ (0, xor blind (scaled 1 x)) ∷ []
 
@@ -48,7 +48,7 @@ abbrev pub ColumnSeesTheSame : Type 0
 ColumnSeesTheSame =
     (x y b blind : List ℕ) → IsBlock x → IsBlock y → IsBlock b → IsBlock blind
     → (other r s : List ℕ) × (w : Site)
-    × Sessions (first_site rack) (stores y b ∷ mends other r s ∷ []) w × Sees x b blind w
+    × Sessions (first_site rack) (stores y b ∷ mends other r s ∷ []) w × SeesBlind x b blind w
 
 -- A PARITY COLUMN
 

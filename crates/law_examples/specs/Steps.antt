@@ -52,7 +52,7 @@ MoveGoesWell =
 -- A RELAY
 
 -- A relay has come to its end: what it brings is the block that was written, and it ends so.
-pub record EndsWell (g : WorldGroup) (s : ℕ) (f : Flight) : Type 0 where
+pub record RelayWentWell (g : WorldGroup) (s : ℕ) (f : Flight) : Type 0 where
   pub law : FlightLaw g.state.table.data_columns g.state.table.parity
       (stripe_of g.state.table g.state.held s) f.relay (partial_of f)
   pub partial : partial_of f ≡ g.written f.relay.stripe f.relay.target
@@ -62,7 +62,7 @@ abbrev pub RelayEndsWell : Type 0
 RelayEndsWell =
     (g : WorldGroup) (s : ℕ) (f : Flight) → IsKept g → s < g.state.table.stripes
     → flight_in g.state.flights s ≡ Some f → next_column g.state.table f.relay ≡ None
-    → EndsWell g s f
+    → RelayWentWell g s f
 
 -- The first place is sound again after so many mends at most.
 abbrev pub MendsBack : Type 0

@@ -11,8 +11,8 @@ use Rattle.pot_index.specs.declared.record.Record.{Record}
 use Rattle.pot_world.specs.declared.step.Step.{Step}
 use Rattle.pot_world.specs.declared.step.Step.TheVariants as step
 use Rattle.pot_world.specs.Group.{WorldGroup, look, mend, sound_block}
-use Rattle.pot_world.specs.World.{Gathered, World, Runs, first_world, group_at}
-use Rattle.pot_world.specs.Worlds.{Gives}
+use Rattle.pot_world.specs.World.{World, Runs, first_world, group_at}
+use Rattle.pot_world.specs.Worlds.{GatheredGive}
 use Rattle.law_examples.specs.Sessions.{rack}
 
 abbrev pub geometry : Geometry
@@ -44,7 +44,7 @@ fetches random =
     ++ step.Fetch 2 name ∷ step.LookAt 2 (place_in 0) ∷ step.LookAt 2 (place_in 1) ∷ []
 
 -- The blocks of the file were written to their places, which are in use.
-pub record IsWritten (random : List ℕ) (v : World) : Type 0 where
+pub record AreBlocksWritten (random : List ℕ) (v : World) : Type 0 where
   pub first : (group_at v 0).written 0 0 ≡ block_in geometry file random 0 0 0
   pub second : (group_at v 1).written 0 0 ≡ block_in geometry file random 0 1 0
   pub used : is_void (slot_at (group_at v 0).state.table 0 0) ≡ false
@@ -53,7 +53,7 @@ pub record IsWritten (random : List ℕ) (v : World) : Type 0 where
 abbrev pub StoreIsWritten : Type 0
 StoreIsWritten =
     (random : List ℕ) → IsStore geometry file random
-    → (v : World) × Runs (loses random) (first_world rack) v × IsWritten random v
+    → (v : World) × Runs (loses random) (first_world rack) v × AreBlocksWritten random v
 
 -- so many mends of the first place by job 2
 abbrev pub mended : ℕ → List ℕ → WorldGroup → WorldGroup
@@ -77,8 +77,8 @@ LossIsMended =
 pub record GivesFile (v : World) : Type 0 where
   pub found : Record
   pub is : (v.actors 2).found ≡ Some found
-  pub gives : Gives found (v.actors 2).gathered file
-  pub alone : (other : List ℕ) → Gives found (v.actors 2).gathered other → other ≡ file
+  pub gives : GatheredGive found (v.actors 2).gathered file
+  pub alone : (other : List ℕ) → GatheredGive found (v.actors 2).gathered other → other ≡ file
 
 abbrev pub FetchGivesFile : Type 0
 FetchGivesFile =

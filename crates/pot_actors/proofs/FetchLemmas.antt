@@ -1,6 +1,6 @@
 -- What a fetch, a look and the start of a renewal make of a world.
-use Rattle.std.proofs.Common.{◌≡◌, ℕ, ◌<◌, ◌≤◌, ◌*◌, ◌++◌, ◌∷◌, [], List, Option, Some, None, Result, Ok, Err, Bool, true, false, length, set, get_or, refl, sym, ap, ap₂, ◌∙◌, subst, arith, if◌then◌else◌}
-use Rattle.std.specs.Prelude.{◌==◌, All, Contains, IfSome, IsSomeAnd, Vec, is_some, option_map, slice_index_or}
+use Rattle.std.proofs.Common.{◌≡◌, ℕ, ◌<◌, ◌≤◌, ◌*◌, ◌++◌, ◌∷◌, [], List, Option, Some, None, Ok, Err, Bool, true, false, length, set, get_or, refl, sym, ap, ap₂, ◌∙◌, subst, arith, if◌then◌else◌}
+use Rattle.std.specs.Prelude.{◌==◌, All, Contains, IfSome, IsSomeAnd, Vec, is_some, option_map}
 use Rattle.std.specs.Global.{Global}
 use Rattle.std.specs.declared.snapshot.Snapshot.{Snapshot}
 use Rattle.std.proofs.Common.{append-nil, mul_assoc}
@@ -15,7 +15,7 @@ use Rattle.pot_index.specs.declared.record.Record.{Record}
 use Rattle.pot_index.specs.Entries.{plain}
 use Rattle.pot_index.specs.Fits.{FitsRack, FitsSplit}
 use Rattle.pot_index.specs.Records.{current_of, splits_of}
-use Rattle.pot_index.specs.Index.{IndexView, logged}
+use Rattle.pot_index.specs.Index.{logged}
 use Rattle.pot_index.proofs.NameLemmas.{contains_here}
 use Rattle.pot_object.specs.Pieces.{pieces_of}
 use Rattle.pot_shard.specs.FileLaws.{IsStore}
@@ -25,9 +25,9 @@ use Rattle.pot_world.specs.declared.step.Step.TheVariants as step
 use Rattle.pot_world.specs.Acts as act
 use Rattle.pot_world.specs.Data.{Goes, SiteData, SoundIn, site_of}
 use Rattle.pot_world.specs.Group.{sound_block}
-use Rattle.pot_world.specs.Reached.{Makes, may}
-use Rattle.pot_world.specs.World.{Actor, Allowed, Gathered, HasGathered, Kept, UnderWay, World, gather, group_at, is_wanted, kept_of, made, record_of, renewal_begun}
-use Rattle.pot_world.specs.Worlds.{Gives}
+use Rattle.pot_world.specs.Reached.{Makes}
+use Rattle.pot_world.specs.World.{Actor, Allowed, Gathered, HasGathered, UnderWay, World, gather, group_at, is_wanted, made, record_of, renewal_begun}
+use Rattle.pot_world.specs.Worlds.{GatheredGive}
 use Rattle.pot_world.proofs.Names.{record_is}
 use Rattle.pot_world.proofs.Sizes.{allowed_at}
 use Rattle.pot_world.proofs.WorldRules.{IsWorld}
@@ -36,14 +36,14 @@ use Rattle.pot_actors.specs.declared.ledger.Ledger.{Ledger}
 use Rattle.pot_actors.specs.declared.parts.Parts.{Parts}
 use Rattle.pot_actors.specs.declared.seat.Gathering.{Gathering}
 use Rattle.pot_actors.specs.declared.split.OpenSplit.{OpenSplit}
-use Rattle.pot_actors.specs.Gathers.{FoundOf, GathersTo, IsFetchedOf, gathered_by, gathered_from}
+use Rattle.pot_actors.specs.Gathers.{FoundOf, GathersTo, IsFetchedOf, gathered_by}
 use Rattle.pot_actors.specs.Joins.{IsReadable}
 use Rattle.pot_actors.specs.Ledgers.{index_of, names_of}
-use Rattle.pot_actors.specs.Runs.{Fetched}
+use Rattle.pot_actors.specs.Runs.{ActorFetched}
 use Rattle.pot_actors.specs.Seats.{HasAll, HasFile, IsTold, SeatData, SitsAt, actor_at, actor_of, no_actor}
 use Rattle.pot_actors.specs.Splits.{under_way_of}
-use Rattle.pot_actors.specs.Steps.{Steps}
-use Rattle.pot_actors.specs.Worlds.{split_values, world_of}
+use Rattle.pot_actors.specs.Steps.{ActorSteps}
+use Rattle.pot_actors.specs.Worlds.{world_of}
 use Rattle.pot_actors.proofs.MoveLemmas.{went}
 use Rattle.pot_actors.proofs.SeatLemmas.{at_seat, found_set, split_set}
 use Rattle.pot_actors.proofs.StoreLemmas.{kept_pushed, split_is, split_pushed}
@@ -120,7 +120,7 @@ module _ (p : Parts) (a at : ℕ) (s : SeatData) (sits : SitsAt p.seats.items a 
       → SoundIn place.group place.stripe place.column p.groups block
       → GathersTo s place block g → ss.items ≡ set p.seats.items at y → y ≡ record s { gathered = g.gathered.items; file = g.file }
       → Goes (Makes place.group (act.Look a place.stripe place.column)) p.groups gs (Ok tt)
-      → Steps (step.LookAt a place) p (record p { groups = gs; seats = ss }) (Ok tt)
+      → ActorSteps (step.LookAt a place) p (record p { groups = gs; seats = ss }) (Ok tt)
   looks gs ss place block g y sound gathers seats now goes =
       let may_look = went p gs place.group (act.Look a place.stripe place.column) (Ok tt) goes in
       let is : block ≡ sound_block (group_at (world_of p) place.group) place.stripe place.column = sound (allowed_at (site_of p.groups).used place.group (act.Look 0 place.stripe place.column) (site_of p.groups).groups may_look.0.0 may_look.0.1) in
@@ -132,7 +132,7 @@ module _ (p : Parts) (a at : ℕ) (s : SeatData) (sits : SitsAt p.seats.items a 
             ∙ (λ i. record (made (step.LookAt a place) (world_of p)) { actors = λ n. if n == a then gathers_as (is_wanted (actor_at p.seats.items a).found place) (actor_at p.seats.items a) place (sound_block (group_at (world_of p) place.group) place.stripe place.column) i else actor_at p.seats.items n }),
       )
 
-  pub looks_not : (gs : SiteData) (place : Place) (f : ActFault) → Goes (Makes place.group (act.Look a place.stripe place.column)) p.groups gs (Err f) → Steps (step.LookAt a place) p (record p { groups = gs }) (Err f)
+  pub looks_not : (gs : SiteData) (place : Place) (f : ActFault) → Goes (Makes place.group (act.Look a place.stripe place.column)) p.groups gs (Err f) → ActorSteps (step.LookAt a place) p (record p { groups = gs }) (Err f)
   looks_not gs place act_fault.NotAllowed goes = went p gs place.group (act.Look a place.stripe place.column) (Err act_fault.NotAllowed) goes
   looks_not gs place act_fault.NoMemory goes = went p gs place.group (act.Look a place.stripe place.column) (Err act_fault.NoMemory) goes
 
@@ -157,7 +157,7 @@ module _ (p : Parts) (a at : ℕ) (s : SeatData) (sits : SitsAt p.seats.items a 
   file_is : (k : IsWorld (world_of p)) (name file : List ℕ) (o : Option Record) → s.found ≡ o → FoundOf name o → HasFile o s.gathered file → file ≡ ((world_of p).originals name).file
   file_is k name file None e f h = absurd f
   file_is k name file (Some r) e f h =
-      fetched_is (world_of p) k a r file (ap (λ (z : Actor). z.found) same ∙ e) (subst (λ (z : Actor). Gives r z.gathered file) (sym same) h.1)
+      fetched_is (world_of p) k a r file (ap (λ (z : Actor). z.found) same ∙ e) (subst (λ (z : Actor). GatheredGive r z.gathered file) (sym same) h.1)
       ∙ ap (λ n. ((world_of p).originals n).file) f
 
   has_all : (name file : List ℕ) (o : Option Record) → FoundOf name o → HasFile o s.gathered file → IsSomeAnd o (λ r. (r.name ≡ name) × HasGathered r s.gathered)
@@ -201,10 +201,10 @@ module _ (p : Parts) (a at : ℕ) (s : SeatData) (sits : SitsAt p.seats.items a 
 
   -- WHAT IS FETCHED
 
-  pub fetched_as : IsWorld (world_of p) → IsTold s.found s.gathered s.file → Fetched (world_of p) a s.file
+  pub fetched_as : IsWorld (world_of p) → IsTold s.found s.gathered s.file → ActorFetched (world_of p) a s.file
   fetched_as k h = by s.file s.found refl refl h
     where
-      by : (f : Option (List ℕ)) (o : Option Record) → s.file ≡ f → s.found ≡ o → IsTold o s.gathered f → Fetched (world_of p) a f
+      by : (f : Option (List ℕ)) (o : Option Record) → s.file ≡ f → s.found ≡ o → IsTold o s.gathered f → ActorFetched (world_of p) a f
       by None None e g h = λ r is has. (let z : None ≡ Some r = sym g ∙ sym (ap (λ (z : Actor). z.found) same) ∙ is in absurd (cc))
       by None (Some q) e g h = λ r is has. (let z : Some q ≡ Some r = sym g ∙ sym (ap (λ (z : Actor). z.found) same) ∙ is in
           h (subst (λ x. HasGathered x s.gathered) (sym (same_Some q r z)) (subst (λ (z : Actor). HasGathered r z.gathered) same has)))
@@ -213,10 +213,10 @@ module _ (p : Parts) (a at : ℕ) (s : SeatData) (sits : SitsAt p.seats.items a 
         r,
         ap (λ (z : Actor). z.found) same ∙ g,
         subst (λ (z : Actor). HasGathered r z.gathered) (sym same) h.0,
-        subst (λ (z : Actor). Gives r z.gathered file) (sym same) h.1,
-        fetched_is (world_of p) k a r file (ap (λ (z : Actor). z.found) same ∙ g) (subst (λ (z : Actor). Gives r z.gathered file) (sym same) h.1),
+        subst (λ (z : Actor). GatheredGive r z.gathered file) (sym same) h.1,
+        fetched_is (world_of p) k a r file (ap (λ (z : Actor). z.found) same ∙ g) (subst (λ (z : Actor). GatheredGive r z.gathered file) (sym same) h.1),
       )
 
 -- who did nothing has fetched nothing
-pub fetched_none : (w : World) (a : ℕ) → w.actors a ≡ no_actor → Fetched w a None
+pub fetched_none : (w : World) (a : ℕ) → w.actors a ≡ no_actor → ActorFetched w a None
 fetched_none w a e r is has = (let z : None ≡ Some r = sym (ap (λ (x : Actor). x.found) e) ∙ is in absurd (cc))

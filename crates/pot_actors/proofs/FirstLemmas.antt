@@ -9,11 +9,10 @@ use Rattle.pot_world.specs.Data.{SiteData, site_of}
 use Rattle.pot_world.specs.Reached.{first_site}
 use Rattle.pot_world.specs.World.{Original, Runs, World, first_world, kept_of}
 use Rattle.pot_actors.specs.declared.ledger.Ledger.{Ledger}
-use Rattle.pot_actors.specs.declared.parts.Parts.{Parts}
 use Rattle.pot_actors.specs.declared.split.OpenSplit.{OpenSplit}
 use Rattle.pot_actors.specs.Ledgers.{index_of}
 use Rattle.pot_actors.specs.Seats.{SeatData, actor_at}
-use Rattle.pot_actors.specs.Worlds.{IsReached, originals_from, originals_of, split_values, world_of}
+use Rattle.pot_actors.specs.Worlds.{IsWorldReached, originals_from, originals_of, split_values, world_of}
 use Rattle.pot_actors.proofs.SeatLemmas.{no_actors}
 
 no_originals : ◌≡◌ {A = List ℕ → Original} (originals_of []) (λ name. record { file = []; randoms = [] })
@@ -32,6 +31,6 @@ first_is rack groups names seats begun ended es en ea eb ee =
       originals = (ap (λ ss. originals_of (split_values ss)) ee ∙ no_originals) i;
     }
 
-pub reached_first : (rack : Rack) (w : World) → IsRack rack → w ≡ first_world rack → IsReached w
+pub reached_first : (rack : Rack) (w : World) → IsRack rack → w ≡ first_world rack → IsWorldReached w
 unfolding Runs
 reached_first rack w fits e = (rack, [], fits, e)

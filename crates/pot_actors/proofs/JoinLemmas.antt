@@ -1,8 +1,8 @@
 -- The points of a fragment that are at hand, and what is joined of them.
-use Rattle.std.proofs.Common.{◌≡◌, ◌⊎◌, inl, inr, ℕ, zero, suc, ◌+◌, ◌-◌, ◌*◌, ◌<◌, ◌≤◌, List, [], ◌∷◌, ◌++◌, Option, Some, None, Bool, true, false, length, drop, get_or, map, nat_eq, nat_lt, refl, sym, ap, ap₂, ◌∙◌, subst, arith}
-use Rattle.std.specs.Prelude.{Contains, IsSome, find, is_some, option_map}
+use Rattle.std.proofs.Common.{◌≡◌, ◌⊎◌, inl, inr, ℕ, zero, suc, ◌+◌, ◌-◌, ◌*◌, ◌<◌, ◌≤◌, List, [], ◌∷◌, ◌++◌, Option, Some, None, Bool, true, false, length, drop, get_or, nat_eq, nat_lt, refl, sym, ap, ap₂, ◌∙◌, subst, arith}
+use Rattle.std.specs.Prelude.{Contains, find, is_some, option_map}
 use Rattle.std.proofs.lemmas.Cmp.{nat_eq_equiv}
-use Rattle.std.specs.List.{All, IsDistinct, flat_map, list_any, range_with_len}
+use Rattle.std.specs.List.{All, IsDistinct, flat_map, list_any}
 use Rattle.std.proofs.lemmas.Bool.Decides.{nat_tests}
 use Rattle.std.proofs.lemmas.Bool.{cases_lt}
 use Rattle.std.proofs.lemmas.List.{flat_map_more, get_or_default, length_push}
@@ -20,7 +20,6 @@ use Rattle.pot_index.specs.declared.record.Record.{Record}
 use Rattle.pot_index.proofs.NameLemmas.{all_from_members}
 use Rattle.pot_object.specs.Pieces.{content_size, pieces_of}
 use Rattle.pot_split.specs.Threshold.{IsJoin}
-use Rattle.pot_shard.specs.Fetches.{AreChosen}
 use Rattle.pot_shard.specs.Places.{place_at, position}
 use Rattle.pot_world.specs.World.{FragmentGathered, Gathered, same_place}
 use Rattle.pot_world.proofs.Names.{found_is, none_found}

@@ -1,11 +1,11 @@
 -- What the steps of groups make of a world.
-use Rattle.std.proofs.Common.{◌≡◌, ℕ, ◌<◌, List, Result, Ok, Err, length, ap}
+use Rattle.std.proofs.Common.{◌≡◌, ℕ, ◌<◌, Result, Ok, Err, ap}
 use Rattle.pot_world.specs.declared.acts.ActFault.{ActFault}
 use Rattle.pot_world.specs.declared.acts.ActFault.TheVariants as act_fault
 use Rattle.pot_world.specs.Acts.{Act}
 use Rattle.pot_world.specs.Data.{Goes, SiteData, site_of}
 use Rattle.pot_world.specs.Reached.{Loses, Makes, Site, moved}
-use Rattle.pot_world.specs.World.{MayMake, World, in_groups}
+use Rattle.pot_world.specs.World.{MayMake, in_groups}
 use Rattle.pot_world.proofs.Sizes.{allowed_at}
 use Rattle.pot_world.proofs.SiteCode.{allowed_there}
 use Rattle.pot_actors.specs.declared.parts.Parts.{Parts}

@@ -1,6 +1,6 @@
 -- Where the first of a name stands, and what a ledger has after an entry.
-use Rattle.std.proofs.Common.{◌≡◌, ◌≢◌, ℕ, ◌+◌, ◌<◌, ◌≤◌, List, [], ◌∷◌, ◌++◌, Option, Some, None, Result, Ok, Err, Bool, true, false, length, map, get_or, set, refl, sym, ap, ap₂, ◌∙◌, subst, arith, cond, nat_lt, if◌then◌else◌}
-use Rattle.std.specs.Prelude.{find, insert, is_some, slice_get, option_map}
+use Rattle.std.proofs.Common.{◌≡◌, ◌≢◌, ℕ, ◌+◌, ◌<◌, ◌≤◌, List, [], ◌∷◌, ◌++◌, Option, Some, None, Bool, true, false, length, map, get_or, set, refl, ap, ap₂, ◌∙◌, subst, arith, nat_lt, if◌then◌else◌}
+use Rattle.std.specs.Prelude.{find, insert, is_some, slice_get}
 use Rattle.std.specs.List.{position, position_or_len}
 use Rattle.std.specs.declared.snapshot.Snapshot.{Snapshot}
 use Rattle.std.proofs.lemmas.Bool.Decides.{nat_tests}
@@ -11,14 +11,13 @@ use Rattle.std.proofs.lemmas.Option.{slice_get-get_or, slice_get_past}
 use Rattle.pot_bytes.specs.declared.digest.Digest.{Digest}
 use Rattle.pot_bytes.specs.declared.rack.Rack.{Rack}
 use Rattle.pot_index.specs.declared.entry.IndexEntry.{IndexEntry}
-use Rattle.pot_index.specs.declared.entry.Logged.{Logged}
 use Rattle.pot_index.specs.declared.entry.IndexEntry.TheVariants as entry
 use Rattle.pot_index.specs.declared.record.Record.{Record}
 use Rattle.pot_index.specs.declared.reservation.Reservation.{Reservation}
-use Rattle.pot_index.specs.Entries.{bringing, plain}
-use Rattle.pot_index.specs.Index.{Ascends, IndexView, inserted, logged, replaced, without}
+use Rattle.pot_index.specs.Entries.{bringing}
+use Rattle.pot_index.specs.Index.{NamesAscend, IndexView, logged, without}
 use Rattle.pot_index.specs.Records.{mark_of}
-use Rattle.pot_index.specs.Searches.{BelongsAt, StandsAt}
+use Rattle.pot_index.specs.Searches.{BelongsAt, RecordStandsAt}
 use Rattle.pot_index.proofs.RecordLemmas.{insert_is, set_is}
 use Rattle.pot_actors.specs.declared.ledger.Entered.{Entered}
 use Rattle.pot_actors.specs.Ledgers.{logged_of}
@@ -74,7 +73,7 @@ module _ (rack : Rack) (rs : List Record) (vs : List Reservation) (log log' : Li
   published_ledger at rs' vs' place is left more =
       (λ i. record { rack = rack; read = []; now = record { published = (is ∙ insert_is r rs at place) i; reserved = left i }; log = entered (λ m. entry.Publish job r.name m) more i })
 
-  pub renewed_ledger : (at : ℕ) → Ascends rs → StandsAt rs r.name at → log' ≡ log ++ record { entry = entry.Renew job r.name mark; brought = Some brought } ∷ []
+  pub renewed_ledger : (at : ℕ) → NamesAscend rs → RecordStandsAt rs r.name at → log' ≡ log ++ record { entry = entry.Renew job r.name mark; brought = Some brought } ∷ []
       → ◌≡◌ {A = IndexView} (record { rack = rack; read = []; now = record { published = set rs at r; reserved = vs }; log = map logged_of log' })
       (logged (record { rack = rack; read = []; now = record { published = rs; reserved = vs }; log = map logged_of log }) (bringing (entry.Renew job r.name (mark_of r)) r))
   renewed_ledger at up place more =

@@ -1,5 +1,5 @@
 -- What is joined fragment by fragment and piece by piece.
-use Rattle.std.proofs.Common.{◌≡◌, ◌⊎◌, inl, inr, ℕ, zero, suc, ◌+◌, ◌-◌, ◌<◌, ◌≤◌, List, [], ◌∷◌, ◌++◌, Option, Some, None, Bool, true, false, length, drop, take, refl, sym, ap, ap₂, ◌∙◌, subst, arith, if◌then◌else◌}
+use Rattle.std.proofs.Common.{◌≡◌, ◌⊎◌, inl, inr, ℕ, zero, suc, ◌+◌, ◌-◌, ◌<◌, ◌≤◌, List, [], ◌∷◌, ◌++◌, Bool, true, false, length, drop, take, refl, sym, ap, ap₂, ◌∙◌, subst, arith, if◌then◌else◌}
 use Rattle.std.specs.Prelude.{◌==◌, Contains}
 use Rattle.std.specs.List.{flat_map, range_with_len}
 use Rattle.std.proofs.lemmas.Bool.Decides.{nat_tests}
@@ -13,7 +13,7 @@ use Rattle.pot_shard.specs.Places.{place_at}
 use Rattle.pot_shard.specs.FileLaws.{xor_of}
 use Rattle.pot_shard.proofs.BlockLemmas.{parts_more}
 use Rattle.pot_world.specs.World.{FragmentGathered, Gathered, HasGathered}
-use Rattle.pot_world.specs.Worlds.{Gives}
+use Rattle.pot_world.specs.Worlds.{GatheredGive}
 use Rattle.pot_actors.specs.Joins.{FragmentJoined, FragmentsJoined, PieceGathered, PieceJoined, PiecesJoined}
 
 flat_same : (f g : ℕ → List ℕ) (n : ℕ) → ((i : ℕ) → i < n → f i ≡ g i) → flat_map f (range_with_len 0 n) ≡ flat_map g (range_with_len 0 n)
@@ -158,7 +158,7 @@ module _ (r : Record) (gathered : List Gathered) where
     join_by i j (inl f) il jl = f.join
     join_by i j (inr x) il jl = absurd (x il jl)
 
-    pub gives : Gives r gathered file
+    pub gives : GatheredGive r gathered file
     gives = record {
       points = λ i j. points_by i j (pick i j);
       blocks = λ i j. blocks_by i j (pick i j);

@@ -1,16 +1,15 @@
 -- Steps one after another.
-use Rattle.std.proofs.Common.{◌≡◌, ℕ, ◌+◌, ◌<◌, ◌≤◌, ◌++◌, ◌∷◌, [], List, Option, Some, None, Result, Ok, Err, length, take, get_or, refl, sym, ap, ap₂, ◌∙◌, subst, arith}
+use Rattle.std.proofs.Common.{◌≡◌, ℕ, ◌+◌, ◌<◌, ◌≤◌, ◌++◌, ◌∷◌, [], List, Some, Err, length, take, get_or, refl, sym, ap, ◌∙◌, subst}
 use Rattle.std.specs.Prelude.{slice_get}
-use Rattle.std.proofs.lemmas.List.{take_all, take_more, get_or_read}
+use Rattle.std.proofs.lemmas.List.{take_all, take_more}
 use Rattle.std.proofs.lemmas.Option.{slice_get-get_or}
 use Rattle.pot_world.specs.declared.acts.ActFault.{ActFault}
 use Rattle.pot_world.specs.declared.acts.ActFault.TheVariants as act_fault
 use Rattle.pot_world.specs.declared.step.Step.{Step}
 use Rattle.pot_world.specs.World.{Allowed, Runs, World, made}
 use Rattle.pot_actors.specs.Runs.{RunsTo}
-use Rattle.pot_actors.specs.Steps.{Becomes}
 use Rattle.pot_actors.specs.declared.parts.Parts.{Parts}
-use Rattle.pot_actors.specs.Worlds.{IsReached, world_of}
+use Rattle.pot_actors.specs.Worlds.{IsWorldReached, world_of}
 use Rattle.pot_actors.specs.declared.world.WorldFault.TheVariants as fault
 
 runs_more : (steps : List Step) (x : Step) (w v : World) → Runs steps w v → Allowed x v → Runs (steps ++ x ∷ []) w (made x v)
@@ -28,10 +27,10 @@ unfolding Runs
 runs_none steps w = refl
 
 -- what a world that was reached runs to is reached
-pub reached_on : (steps : List Step) (w v : World) → IsReached w → Runs steps w v → IsReached v
+pub reached_on : (steps : List Step) (w v : World) → IsWorldReached w → Runs steps w v → IsWorldReached v
 reached_on steps w v h r = (h.0, h.1 ++ steps, h.2, runs_then h.1 steps _ w v h.3 r)
 
-pub reached_by : (steps : List Step) (p q r : Parts) → p ≡ q → IsReached (world_of p) → Runs steps (world_of q) (world_of r) → IsReached (world_of r)
+pub reached_by : (steps : List Step) (p q r : Parts) → p ≡ q → IsWorldReached (world_of p) → Runs steps (world_of q) (world_of r) → IsWorldReached (world_of r)
 reached_by steps p q r e h runs = reached_on steps (world_of p) (world_of r) h (subst (λ (x : Parts). Runs steps (world_of x) (world_of r)) (sym e) runs)
 
 -- one step more was made

@@ -1,6 +1,6 @@
 -- What the steps of a store make of a world.
-use Rattle.std.proofs.Common.{◌≡◌, ℕ, ◌<◌, ◌≤◌, ◌++◌, ◌∷◌, [], List, Option, Some, None, Result, Ok, Err, Bool, true, false, length, map, get_or, set, refl, sym, ap, ap₂, ◌∙◌, subst, arith, if◌then◌else◌}
-use Rattle.std.specs.Prelude.{◌==◌, IsSome, IsSomeAnd, Vec, is_some, option_map}
+use Rattle.std.proofs.Common.{◌≡◌, ℕ, ◌<◌, ◌≤◌, ◌++◌, ◌∷◌, [], List, Option, Some, None, Result, Ok, Err, true, false, length, map, get_or, set, refl, sym, ap, ◌∙◌, subst, if◌then◌else◌}
+use Rattle.std.specs.Prelude.{◌==◌, IsSomeAnd, Vec, is_some}
 use Rattle.std.specs.Global.{Global}
 use Rattle.std.specs.declared.snapshot.Snapshot.{Snapshot}
 use Rattle.std.proofs.lemmas.List.{map-append}
@@ -13,15 +13,14 @@ use Rattle.pot_world.specs.declared.acts.ActFault.TheVariants as act_fault
 use Rattle.pot_world.specs.declared.step.Step.TheVariants as step
 use Rattle.pot_world.specs.Data.{SiteData, site_of}
 use Rattle.pot_world.specs.Group.{put}
-use Rattle.pot_world.specs.Reached.{Site}
-use Rattle.pot_world.specs.World.{Actor, Allowed, Kept, UnderWay, World, abandon_by, abandon_step, blocks_of, group_at, grown, is_taken, kept_of, made, next_block, next_group, put_block, put_step, store_begun, store_by}
+use Rattle.pot_world.specs.World.{Actor, Allowed, UnderWay, World, abandon_by, abandon_step, blocks_of, group_at, grown, is_taken, kept_of, made, next_group, put_block, put_step, store_begun, store_by}
 use Rattle.pot_actors.specs.declared.ledger.Ledger.{Ledger}
 use Rattle.pot_actors.specs.declared.parts.Parts.{Parts}
 use Rattle.pot_actors.specs.declared.split.OpenSplit.{OpenSplit}
 use Rattle.pot_actors.specs.Ledgers.{index_of, names_of}
-use Rattle.pot_actors.specs.Seats.{SeatData, SitsAt, actor_at, actor_of}
-use Rattle.pot_actors.specs.Splits.{PutBlock, PutsNext, under_way_of}
-use Rattle.pot_actors.specs.Steps.{Becomes, Steps}
+use Rattle.pot_actors.specs.Seats.{SeatData, SitsAt, actor_at}
+use Rattle.pot_actors.specs.Splits.{PutsNext, under_way_of}
+use Rattle.pot_actors.specs.Steps.{ActorSteps}
 use Rattle.pot_actors.specs.Worlds.{split_values, world_of}
 use Rattle.pot_actors.proofs.SeatLemmas.{has_none, has_some, none_taken, put_back, split_back, split_set}
 
@@ -95,7 +94,7 @@ module _ (p : Parts) (a at : ℕ) (s : SeatData) (sits : SitsAt p.seats.items a 
     back is = ap actor_at seats ∙ put_back p.seats.items a at s sits here y s' y' u w had e read e' is
 
     pub put_as : (gs : SiteData) (r : Result (Unit {0}) ActFault) → PutsNext p.names.rack a p.groups (under_way_of w) gs (under_way_of u) r
-        → Steps (step.PutNext a) p (record p { groups = gs; seats = ss }) r
+        → ActorSteps (step.PutNext a) p (record p { groups = gs; seats = ss }) r
     put_as gs (Ok x) h =
         let actors = ap actor_at seats ∙ split_back p.seats.items a at s sits here y s' y' u (grown (next_group p.names.rack (under_way_of w)) (under_way_of w) (put a h.block (group_at (world_of p) (next_group p.names.rack (under_way_of w)))).place) e read e' h.kept in (
           subst (λ o. IsSomeAnd o (λ u. length u.places < length (blocks_of u))) (sym is_under_way) h.left,
@@ -140,8 +139,8 @@ module _ (p : Parts) (a at : ℕ) (s : SeatData) (sits : SitsAt p.seats.items a 
     stays : world_of (record p { seats = ss }) ≡ world_of p
     stays = ap (λ (f : ℕ → Actor). record (world_of p) { actors = f }) (ap actor_at seats ∙ none_taken p.seats.items a at s sits here y had e)
 
-    pub no_put : Steps (step.PutNext a) p (record p { seats = ss }) (Err act_fault.NotAllowed)
+    pub no_put : ActorSteps (step.PutNext a) p (record p { seats = ss }) (Err act_fault.NotAllowed)
     no_put = (none_left had, stays)
 
-    pub no_abandon : Steps (step.Abandon a) p (record p { seats = ss }) (Err act_fault.NotAllowed)
+    pub no_abandon : ActorSteps (step.Abandon a) p (record p { seats = ss }) (Err act_fault.NotAllowed)
     no_abandon = ((λ k. (let e : is_some {T = UnderWay} None ≡ true = ap is_some (sym (has_none p.seats.items a at s sits here had)) ∙ k in absurd (cc))), stays)

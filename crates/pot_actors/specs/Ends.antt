@@ -17,23 +17,23 @@ use Rattle.pot_actors.specs.Ledgers.{index_of, names_of}
 use Rattle.pot_actors.specs.Worlds.{split_values}
 
 -- the split ended by an entry
-abbrev pub EndsBy : Logged → Ledger → List (Snapshot OpenSplit) → UnderWay → Ledger
+abbrev pub EndsByEntry : Logged → Ledger → List (Snapshot OpenSplit) → UnderWay → Ledger
     → List (Snapshot OpenSplit) → Type 0
-EndsBy x old ended u new ended' =
+EndsByEntry x old ended u new ended' =
     (index_of new ≡ logged (index_of old) x) × (split_values ended' ≡ split_values ended ++ u ∷ [])
 
 -- The split ended by an entry; or memory was not found, and all is as before.
-abbrev pub Ends : {E : Type 0} → Logged → Ledger → List (Snapshot OpenSplit) → UnderWay → Ledger
+abbrev pub EndsSplit : {E : Type 0} → Logged → Ledger → List (Snapshot OpenSplit) → UnderWay → Ledger
     → List (Snapshot OpenSplit) → Result (Unit {0}) E → Type 0
-Ends x old ended u new ended' (Ok y) = EndsBy x old ended u new ended'
-Ends x old ended u new ended' (Err e) =
+EndsSplit x old ended u new ended' (Ok y) = EndsByEntry x old ended u new ended'
+EndsSplit x old ended u new ended' (Err e) =
     (index_of new ≡ index_of old) × (split_values ended' ≡ split_values ended)
 
 -- the record gained the split
-abbrev pub Renews : {E : Type 0} → ℕ → Record → Ledger → List (Snapshot OpenSplit) → UnderWay
+abbrev pub RecordGainsSplit : {E : Type 0} → ℕ → Record → Ledger → List (Snapshot OpenSplit) → UnderWay
     → Ledger → List (Snapshot OpenSplit) → Result (Unit {0}) E → Type 0
-Renews a r old ended u new ended' result =
-    Ends (bringing (entry.Renew a u.name (mark_of (renewed r (split_of u))))
+RecordGainsSplit a r old ended u new ended' result =
+    EndsSplit (bringing (entry.Renew a u.name (mark_of (renewed r (split_of u))))
     (renewed r (split_of u))) old ended u new ended' result
 
 -- all blocks were put, and the record that a renewal is of has fewer than 16 splits
@@ -46,23 +46,23 @@ MayPublish now u =
 abbrev pub EndsAs : Bool → Option Record → ℕ → Ledger → List (Snapshot OpenSplit) → UnderWay
     → Ledger → List (Snapshot OpenSplit) → Type 0
 EndsAs false o a old ended u new ended' =
-    EndsBy (bringing (entry.Publish a u.name (mark_of (record_made u))) (record_made u)) old ended u
+    EndsByEntry (bringing (entry.Publish a u.name (mark_of (record_made u))) (record_made u)) old ended u
     new ended'
 EndsAs true None a old ended u new ended' = ⊥
 EndsAs true (Some r) a old ended u new ended' =
-    EndsBy (bringing (entry.Renew a u.name (mark_of (renewed r (split_of u))))
+    EndsByEntry (bringing (entry.Renew a u.name (mark_of (renewed r (split_of u))))
     (renewed r (split_of u))) old ended u new ended'
 
-abbrev pub Stays : Ledger → List (Snapshot OpenSplit) → Ledger → List (Snapshot OpenSplit) → Type 0
-Stays old ended new ended' =
+abbrev pub LedgerStays : Ledger → List (Snapshot OpenSplit) → Ledger → List (Snapshot OpenSplit) → Type 0
+LedgerStays old ended new ended' =
     (index_of new ≡ index_of old) × (split_values ended' ≡ split_values ended)
 
 -- The split was published; or it may not be, or memory was not found, and all is as before.
-abbrev pub Publishes : ℕ → Ledger → List (Snapshot OpenSplit) → UnderWay → Ledger
+abbrev pub PublishesSplit : ℕ → Ledger → List (Snapshot OpenSplit) → UnderWay → Ledger
     → List (Snapshot OpenSplit) → Result (Unit {0}) ActFault → Type 0
-Publishes a old ended u new ended' (Ok x) =
+PublishesSplit a old ended u new ended' (Ok x) =
     MayPublish (names_of old) u
     × EndsAs u.renews (record_of (names_of old) u.name) a old ended u new ended'
-Publishes a old ended u new ended' (Err act_fault.NotAllowed) =
-    (¬ MayPublish (names_of old) u) × Stays old ended new ended'
-Publishes a old ended u new ended' (Err act_fault.NoMemory) = Stays old ended new ended'
+PublishesSplit a old ended u new ended' (Err act_fault.NotAllowed) =
+    (¬ MayPublish (names_of old) u) × LedgerStays old ended new ended'
+PublishesSplit a old ended u new ended' (Err act_fault.NoMemory) = LedgerStays old ended new ended'

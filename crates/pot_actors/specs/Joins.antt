@@ -1,6 +1,6 @@
 -- Which points of a fragment were gathered, and what is joined of them.
-use Rattle.std.specs.Prelude.{◌≡◌, ◌<◌, ◌≤◌, ℕ, zero, suc, ◌+◌, ◌*◌, ◌-◌, ◌++◌, Bool, true, false}
-use Rattle.std.specs.Prelude.{List, [], ◌∷◌, Option, Some, None, Contains, drop, find, length}
+use Rattle.std.specs.Prelude.{◌≡◌, ◌<◌, ◌≤◌, ℕ, zero, suc, ◌+◌, ◌*◌, ◌-◌, ◌++◌, Bool, true}
+use Rattle.std.specs.Prelude.{List, [], ◌∷◌, Option, Some, Contains, drop, find, length}
 use Rattle.std.specs.Prelude.{nat_lt, option_map}
 use Rattle.std.specs.List.{flat_map, range_with_len}
 use Rattle.pot_bytes.specs.Rack.{IsGeometry}
@@ -11,7 +11,7 @@ use Rattle.pot_split.specs.Threshold.{IsJoin}
 use Rattle.pot_shard.specs.Fetches.{AreChosen}
 use Rattle.pot_shard.specs.FileLaws.{xor_of}
 use Rattle.pot_shard.specs.Places.{place_at}
-use Rattle.pot_world.specs.World.{FragmentGathered, Gathered, HasGathered, same_place}
+use Rattle.pot_world.specs.World.{FragmentGathered, Gathered, same_place}
 
 -- a record whose current split is within its limits
 pub record IsReadable (r : Record) : Type 0 where

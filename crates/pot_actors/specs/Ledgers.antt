@@ -1,5 +1,5 @@
 -- The index of a world as a program has it.
-use Rattle.std.specs.Prelude.{◌≡◌, List, [], map, option_map, Result, Ok, Err}
+use Rattle.std.specs.Prelude.{◌≡◌, [], map, option_map, Result, Ok, Err}
 use Rattle.pot_index.specs.declared.entry.Logged.{Logged}
 use Rattle.pot_index.specs.Index.{IndexView, Names, logged}
 use Rattle.pot_actors.specs.declared.ledger.Entered.{Entered}
@@ -17,6 +17,6 @@ index_of l = record { rack = l.rack; read = []; now = names_of l; log = map logg
 
 -- The entry was logged, and did to the names what it does; or memory was not found, and all is as
 -- before.
-abbrev pub Logs : {E : Type 0} → Logged → Ledger → Ledger → Result (Unit {0}) E → Type 0
-Logs x old new (Ok u) = index_of new ≡ logged (index_of old) x
-Logs x old new (Err e) = index_of new ≡ index_of old
+abbrev pub LogsName : {E : Type 0} → Logged → Ledger → Ledger → Result (Unit {0}) E → Type 0
+LogsName x old new (Ok u) = index_of new ≡ logged (index_of old) x
+LogsName x old new (Err e) = index_of new ≡ index_of old

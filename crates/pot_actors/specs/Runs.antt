@@ -4,7 +4,7 @@ use Rattle.std.specs.Prelude.{slice_get, take}
 use Rattle.pot_index.specs.declared.record.Record.{Record}
 use Rattle.pot_world.specs.declared.step.Step.{Step}
 use Rattle.pot_world.specs.World.{Allowed, HasGathered, Runs, World}
-use Rattle.pot_world.specs.Worlds.{Gives}
+use Rattle.pot_world.specs.Worlds.{GatheredGive}
 use Rattle.pot_actors.specs.declared.world.WorldFault.{WorldFault}
 use Rattle.pot_actors.specs.declared.world.WorldFault.TheVariants as fault
 
@@ -19,10 +19,10 @@ RunsTo steps w v (Err (fault.NoMemory at)) = Runs (take at steps) w v × (at < l
 -- The file that the blocks give that the actor gathered since its last fetch, which is that of the
 -- Store that was published under the name; none exactly where they are not m of each fragment of
 -- the record found, or none was found.
-abbrev pub Fetched : World → ℕ → Option (List ℕ) → Type 0
-Fetched w a None =
+abbrev pub ActorFetched : World → ℕ → Option (List ℕ) → Type 0
+ActorFetched w a None =
     (r : Record) → (w.actors a).found ≡ Some r → ¬ HasGathered r (w.actors a).gathered
-Fetched w a (Some file) =
+ActorFetched w a (Some file) =
     (r : Record) × ((w.actors a).found ≡ Some r) × HasGathered r (w.actors a).gathered
-    × Gives r (w.actors a).gathered file
+    × GatheredGive r (w.actors a).gathered file
     × (file ≡ (w.originals r.name).file)

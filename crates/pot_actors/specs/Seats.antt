@@ -1,10 +1,10 @@
 -- The actors as a program has them: a list, each with its number. Who is not in it has nothing
 -- under way and found nothing.
-use Rattle.std.specs.Prelude.{◌≡◌, ℕ, suc, zero, ◌==◌, Bool, false, List, [], ◌∷◌, Option, Some}
+use Rattle.std.specs.Prelude.{◌≡◌, ℕ, suc, zero, ◌==◌, false, List, [], ◌∷◌, Option, Some}
 use Rattle.std.specs.Prelude.{None, IsSomeAnd, if◌then◌else◌, option_map}
 use Rattle.pot_index.specs.declared.record.Record.{Record}
 use Rattle.pot_world.specs.World.{Actor, Gathered, HasGathered}
-use Rattle.pot_world.specs.Worlds.{Gives}
+use Rattle.pot_world.specs.Worlds.{GatheredGive}
 use Rattle.pot_actors.specs.declared.split.OpenSplit.{OpenSplit}
 use Rattle.pot_actors.specs.Splits.{under_way_of}
 
@@ -39,7 +39,7 @@ HasAll found gathered = IsSomeAnd found (λ r. HasGathered r gathered)
 
 -- what they give
 abbrev pub HasFile : Option Record → List Gathered → List ℕ → Type 0
-HasFile found gathered file = IsSomeAnd found (λ r. HasGathered r gathered × Gives r gathered file)
+HasFile found gathered file = IsSomeAnd found (λ r. HasGathered r gathered × GatheredGive r gathered file)
 
 -- a file that they give is at hand exactly where they are enough
 abbrev pub IsTold : Option Record → List Gathered → Option (List ℕ) → Type 0

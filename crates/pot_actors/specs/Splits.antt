@@ -1,5 +1,5 @@
 -- A split under way as a program has it.
-use Rattle.std.specs.Prelude.{◌≡◌, ◌<◌, ℕ, List, Option, Some, Result, Ok, Err, length}
+use Rattle.std.specs.Prelude.{◌≡◌, ◌<◌, ℕ, List, Some, Result, Ok, Err, length}
 use Rattle.std.specs.Prelude.{slice_index_or}
 use Rattle.pot_bytes.specs.declared.rack.Rack.{Rack}
 use Rattle.pot_world.specs.declared.acts.ActFault.{ActFault}

@@ -1,14 +1,13 @@
 -- The world that a program has.
-use Rattle.std.specs.Prelude.{◌≡◌, ℕ, Bool, true, false, List, [], ◌∷◌, ◌++◌, Vec, map}
+use Rattle.std.specs.Prelude.{◌≡◌, ℕ, Bool, true, false, List, [], ◌∷◌, ◌++◌, map}
 use Rattle.std.specs.Prelude.{if◌then◌else◌}
-use Rattle.std.specs.Global.{Global}
 use Rattle.std.specs.declared.snapshot.Snapshot.{Snapshot}
 use Rattle.pot_bytes.specs.declared.rack.Rack.{Rack}
 use Rattle.pot_bytes.specs.Rack.{IsRack}
 use Rattle.pot_index.specs.Index.{same_name}
 use Rattle.pot_world.specs.declared.step.Step.{Step}
 use Rattle.pot_world.specs.Data.{site_of}
-use Rattle.pot_world.specs.World.{Kept, Original, Runs, UnderWay, World, first_world, kept_of}
+use Rattle.pot_world.specs.World.{Original, Runs, UnderWay, World, first_world, kept_of}
 use Rattle.pot_actors.specs.declared.split.OpenSplit.{OpenSplit}
 use Rattle.pot_actors.specs.declared.parts.Parts.{Parts}
 use Rattle.pot_actors.specs.Ledgers.{index_of}
@@ -46,5 +45,5 @@ world_of p = record {
 }
 
 -- steps lead to it from the world that a rack begins with
-abbrev pub IsReached : World → Type 0
-IsReached w = (rack : Rack) × (steps : List Step) × IsRack rack × Runs steps (first_world rack) w
+abbrev pub IsWorldReached : World → Type 0
+IsWorldReached w = (rack : Rack) × (steps : List Step) × IsRack rack × Runs steps (first_world rack) w

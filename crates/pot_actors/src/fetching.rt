@@ -1,8 +1,8 @@
 //! Fetches: a record found, blocks of it gathered, and a renewal of what they give.
 ghost use Rattle.std.specs.Prelude.{◌≡◌};
 ghost use Rattle.pot_world.specs.declared.step.Step.TheVariants as step;
-ghost use Rattle.pot_actors.specs.Steps.{Steps};
-ghost use Rattle.pot_actors.specs.Worlds.{IsReached, world_of};
+ghost use Rattle.pot_actors.specs.Steps.{ActorSteps};
+ghost use Rattle.pot_actors.specs.Worlds.{IsWorldReached, world_of};
 
 use crate::blocks::is_store;
 use crate::parts::Parts;
@@ -17,8 +17,8 @@ use std::snapshot::Snapshot;
 impl Parts {
     /// The actor looks a name up, and forgets what it had gathered.
     pub(crate) fn fetch(&mut self, alloc: Global, actor: u32, name: &Name) -> Result<(), ActFault>
-        requires { IsReached (world_of self.old) }
-        ensures { Steps (step.Fetch actor name.now) self.old self.new result }
+        requires { IsWorldReached (world_of self.old) }
+        ensures { ActorSteps (step.Fetch actor name.now) self.old self.new result }
     {
         let Ok(at) = take_seat(alloc, &mut self.seats, actor) else {
             return Err(ActFault::NoMemory);
@@ -47,8 +47,8 @@ impl Parts {
         actor: u32,
         place: &Place,
     ) -> Result<(), ActFault>
-        requires { IsReached (world_of self.old) }
-        ensures { Steps (step.LookAt actor place.now) self.old self.new result }
+        requires { IsWorldReached (world_of self.old) }
+        ensures { ActorSteps (step.LookAt actor place.now) self.old self.new result }
     {
         let Ok(at) = take_seat(alloc, &mut self.seats, actor) else {
             return Err(ActFault::NoMemory);
@@ -80,8 +80,8 @@ impl Parts {
         geometry: &Geometry,
         random: &Bytes,
     ) -> Result<(), ActFault>
-        requires { IsReached (world_of self.old) }
-        ensures { Steps (step.Renew actor name.now geometry.now random.now) self.old self.new
+        requires { IsWorldReached (world_of self.old) }
+        ensures { ActorSteps (step.Renew actor name.now geometry.now random.now) self.old self.new
             result }
     {
         let Ok(at) = take_seat(alloc, &mut self.seats, actor) else {

@@ -2,12 +2,12 @@
 ghost use Rattle.std.specs.Prelude.{◌≡◌, ◌<◌, Some, None, [], IfOk, MatchResult};
 ghost use Rattle.std.specs.List.{position};
 ghost use Rattle.pot_index.specs.declared.entry.IndexEntry.TheVariants as entry;
-ghost use Rattle.pot_index.specs.Entries.{IsQuiet, bringing, plain};
-ghost use Rattle.pot_index.specs.Index.{Ascends, IsPublished, same_name, started, without};
+ghost use Rattle.pot_index.specs.Entries.{ChangesNoName, bringing, plain};
+ghost use Rattle.pot_index.specs.Index.{NamesAscend, IsPublished, same_name, started, without};
 ghost use Rattle.pot_index.specs.Records.{mark_of};
-ghost use Rattle.pot_index.specs.Searches.{BelongsAt, StandsAt};
+ghost use Rattle.pot_index.specs.Searches.{BelongsAt, RecordStandsAt};
 ghost use Rattle.pot_world.specs.World.{is_reserved, is_taken, record_of};
-ghost use Rattle.pot_actors.specs.Ledgers.{Logs, index_of, names_of};
+ghost use Rattle.pot_actors.specs.Ledgers.{LogsName, index_of, names_of};
 
 use pot_bytes::{Digest, Name, NoMemory, Rack};
 use pot_index::{IndexEntry, Record, Reservation};
@@ -32,8 +32,9 @@ pub(crate) struct Ledger {
 
 /// Where the record of this name stands, or else where it belongs.
 fn place_of(records: &[Record], name: &Name) -> Result<usize, usize>
-    requires { Ascends records.now }
-    ensures { MatchResult result (StandsAt records.now name.now) (BelongsAt records.now name.now) }
+    requires { NamesAscend records.now }
+    ensures { MatchResult result (RecordStandsAt records.now name.now)
+        (BelongsAt records.now name.now) }
 {
     records.binary_search_by_key(name, |record| record.name)
 }
@@ -107,8 +108,8 @@ impl Ledger {
 
     /// Logs an entry that changes no name.
     pub(crate) fn enter(&mut self, entry: IndexEntry) -> Result<(), NoMemory>
-        requires { IsQuiet entry }
-        ensures { Logs (plain entry) self.old self.new result }
+        requires { ChangesNoName entry }
+        ensures { LogsName (plain entry) self.old self.new result }
     {
         self.log.reserve(1)?;
         self.log.push_reserved(Entered {
@@ -120,7 +121,7 @@ impl Ledger {
 
     /// Reserves the name.
     pub(crate) fn reserve(&mut self, job: u32, name: &Name) -> Result<(), NoMemory>
-        ensures { Logs (plain (entry.Reserve job name.now)) self.old self.new result }
+        ensures { LogsName (plain (entry.Reserve job name.now)) self.old self.new result }
     {
         self.log.reserve(1)?;
         self.reserved.reserve(1)?;
@@ -135,7 +136,7 @@ impl Ledger {
 
     /// Ends the reservation of the name.
     pub(crate) fn abandon(&mut self, job: u32, name: &Name) -> Result<(), NoMemory>
-        ensures { Logs (plain (entry.Abandon job name.now)) self.old self.new result }
+        ensures { LogsName (plain (entry.Abandon job name.now)) self.old self.new result }
     {
         self.log.reserve(1)?;
         release(&mut self.reserved, name);
@@ -148,10 +149,10 @@ impl Ledger {
 
     /// Publishes a record under a name that is not published.
     pub(crate) fn publish(&mut self, job: u32, kept: Record, mark: Digest) -> Result<(), NoMemory>
-        requires ascends { Ascends self.old.records.items }
+        requires ascends { NamesAscend self.old.records.items }
         requires free { ¬ IsPublished (names_of self.old) kept.name }
         requires marked { mark ≡ mark_of kept }
-        ensures { Logs (bringing (entry.Publish job kept.name (mark_of kept)) kept) self.old
+        ensures { LogsName (bringing (entry.Publish job kept.name (mark_of kept)) kept) self.old
             self.new result }
     {
         let Err(at) = place_of(&self.records, &kept.name) else {
@@ -180,10 +181,11 @@ impl Ledger {
         kept: Record,
         mark: Digest,
     ) -> Result<(), NoMemory>
-        requires ascends { Ascends self.old.records.items }
-        requires stands { StandsAt self.old.records.items kept.name at }
+        requires ascends { NamesAscend self.old.records.items }
+        requires stands { RecordStandsAt self.old.records.items kept.name at }
         requires marked { mark ≡ mark_of kept }
-        ensures { Logs (bringing (entry.Renew job kept.name (mark_of kept)) kept) self.old self.new
+        ensures { LogsName (bringing (entry.Renew job kept.name
+            (mark_of kept)) kept) self.old self.new
             result }
     {
         self.log.reserve(1)?;

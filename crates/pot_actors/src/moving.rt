@@ -2,7 +2,7 @@
 ghost use Rattle.std.specs.Prelude.{◌≡◌, ◌↔◌, Ok};
 ghost use Rattle.pot_world.specs.declared.step.Step.TheVariants as step;
 ghost use Rattle.pot_world.specs.World.{made};
-ghost use Rattle.pot_actors.specs.Steps.{Steps};
+ghost use Rattle.pot_actors.specs.Steps.{ActorSteps};
 ghost use Rattle.pot_actors.specs.Worlds.{world_of};
 
 use crate::parts::Parts;
@@ -12,7 +12,7 @@ use pot_world::{ActFault, GroupAct};
 impl Parts {
     /// One step of mending a place.
     pub(crate) fn mend(&mut self, actor: u32, place: &Place, blind: &Block) -> Result<(), ActFault>
-        ensures { Steps (step.Mend actor place.now blind.now) self.old self.new result }
+        ensures { ActorSteps (step.Mend actor place.now blind.now) self.old self.new result }
     {
         let act = GroupAct::Mend {
             job: actor,
@@ -31,7 +31,7 @@ impl Parts {
         column: u8,
         to: u32,
     ) -> Result<(), ActFault>
-        ensures { Steps (step.MoveBegin actor group column to) self.old self.new result }
+        ensures { ActorSteps (step.MoveBegin actor group column to) self.old self.new result }
     {
         let act = GroupAct::MoveBegin {
             job: actor,
@@ -43,7 +43,7 @@ impl Parts {
 
     /// A move goes on by one stripe, or ends.
     pub(crate) fn move_one(&mut self, actor: u32, group: u8, column: u8) -> Result<(), ActFault>
-        ensures { Steps (step.MoveOne actor group column) self.old self.new result }
+        ensures { ActorSteps (step.MoveOne actor group column) self.old self.new result }
     {
         let act = GroupAct::MoveOne { job: actor, column };
         self.groups.make(group, &act)
@@ -57,7 +57,7 @@ impl Parts {
         column: u8,
         to: u32,
     ) -> Result<(), ActFault>
-        ensures { Steps (step.Swap actor group column to) self.old self.new result }
+        ensures { ActorSteps (step.Swap actor group column to) self.old self.new result }
     {
         let act = GroupAct::Swap {
             job: actor,

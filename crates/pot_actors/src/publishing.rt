@@ -3,17 +3,17 @@ ghost use Rattle.std.specs.Prelude.{◌≡◌, ◌<◌, false, length, slice_ind
 ghost use Rattle.pot_index.specs.declared.entry.IndexEntry.TheVariants as entry;
 ghost use Rattle.pot_index.specs.declared.record.Record.{Record};
 ghost use Rattle.pot_index.specs.Entries.{bringing};
-ghost use Rattle.pot_index.specs.Index.{Ascends, IsPublished};
+ghost use Rattle.pot_index.specs.Index.{NamesAscend, IsPublished};
 ghost use Rattle.pot_index.specs.Records.{mark_of, renewed};
-ghost use Rattle.pot_index.specs.Searches.{StandsAt};
+ghost use Rattle.pot_index.specs.Searches.{RecordStandsAt};
 ghost use Rattle.pot_shard.specs.FileLaws.{IsStore};
 ghost use Rattle.pot_world.specs.declared.step.Step.TheVariants as step;
 ghost use Rattle.pot_world.specs.World.{record_made, split_of};
-ghost use Rattle.pot_actors.specs.Ends.{Ends, Publishes, Renews};
+ghost use Rattle.pot_actors.specs.Ends.{EndsSplit, PublishesSplit, RecordGainsSplit};
 ghost use Rattle.pot_actors.specs.Ledgers.{names_of};
 ghost use Rattle.pot_actors.specs.Splits.{under_way_of};
-ghost use Rattle.pot_actors.specs.Steps.{Steps};
-ghost use Rattle.pot_actors.specs.Worlds.{IsReached, world_of};
+ghost use Rattle.pot_actors.specs.Steps.{ActorSteps};
+ghost use Rattle.pot_actors.specs.Worlds.{IsWorldReached, world_of};
 
 use crate::blocks::count_blocks;
 use crate::ledger::Ledger;
@@ -82,9 +82,9 @@ fn publish_store(
     actor: u32,
     split: &OpenSplit,
 ) -> Result<(), NoMemory>
-    requires ascends { Ascends names.old.records.items }
+    requires ascends { NamesAscend names.old.records.items }
     requires free { ¬ IsPublished (names_of names.old) split.now.name }
-    ensures { Ends (bringing (entry.Publish actor split.now.name
+    ensures { EndsSplit (bringing (entry.Publish actor split.now.name
         (mark_of (record_made (under_way_of split.now)))) (record_made (under_way_of split.now)))
         names.old ended.old.items (under_way_of split.now) names.new ended.new.items result }
 {
@@ -105,11 +105,12 @@ fn publish_renewal(
     at: usize,
     split: &OpenSplit,
 ) -> Result<(), NoMemory>
-    requires ascends { Ascends names.old.records.items }
-    requires stands { StandsAt names.old.records.items split.now.name at }
+    requires ascends { NamesAscend names.old.records.items }
+    requires stands { RecordStandsAt names.old.records.items split.now.name at }
     requires few { (d : Record) → length (slice_index_or names.old.records.items at d).older < 15 }
     ensures { (d : Record)
-        → Renews actor (slice_index_or names.old.records.items at d) names.old ended.old.items
+        → RecordGainsSplit actor (slice_index_or names.old.records.items at d) names.old
+        ended.old.items
         (under_way_of split.now) names.new ended.new.items result }
 {
     let kept = renewed(alloc, &names.records[at], split)?;
@@ -129,9 +130,9 @@ fn publish(
     split: &OpenSplit,
 ) -> Result<(), ActFault>
     requires store { IsStore split.now.geometry split.now.file split.now.random }
-    requires ascends { Ascends names.old.records.items }
+    requires ascends { NamesAscend names.old.records.items }
     requires free { split.now.renews ≡ false → ¬ IsPublished (names_of names.old) split.now.name }
-    ensures { Publishes actor names.old ended.old.items (under_way_of split.now) names.new
+    ensures { PublishesSplit actor names.old ended.old.items (under_way_of split.now) names.new
         ended.new.items result }
 {
     if split.places.len() != count_blocks(split) {
@@ -158,8 +159,8 @@ fn publish(
 impl Parts {
     /// The actor's split, all of whose blocks were put, is published.
     pub(crate) fn publish(&mut self, alloc: Global, actor: u32) -> Result<(), ActFault>
-        requires { IsReached (world_of self.old) }
-        ensures { Steps (step.Publish actor) self.old self.new result }
+        requires { IsWorldReached (world_of self.old) }
+        ensures { ActorSteps (step.Publish actor) self.old self.new result }
     {
         let Ok(at) = take_seat(alloc, &mut self.seats, actor) else {
             return Err(ActFault::NoMemory);

@@ -5,8 +5,8 @@ ghost use Rattle.pot_shard.specs.FileLaws.{IsStore};
 ghost use Rattle.pot_world.specs.declared.step.Step.TheVariants as step;
 ghost use Rattle.pot_actors.specs.Seats.{SitsAt};
 ghost use Rattle.pot_actors.specs.Splits.{PutsNext, under_way_of};
-ghost use Rattle.pot_actors.specs.Steps.{Begins, Steps};
-ghost use Rattle.pot_actors.specs.Worlds.{IsReached, world_of};
+ghost use Rattle.pot_actors.specs.Steps.{BeginsStore, ActorSteps};
+ghost use Rattle.pot_actors.specs.Worlds.{IsWorldReached, world_of};
 
 use crate::blocks::{block_at, count_blocks, is_store};
 use crate::parts::Parts;
@@ -67,8 +67,9 @@ impl Parts {
         file: &Bytes,
         random: &Bytes,
     ) -> Result<(), ActFault>
-        requires { IsReached (world_of self.old) }
-        ensures { Steps (step.Store actor name.now file.now random.now) self.old self.new result }
+        requires { IsWorldReached (world_of self.old) }
+        ensures { ActorSteps (step.Store actor name.now file.now random.now) self.old self.new
+            result }
     {
         let Ok(at) = take_seat(alloc, &mut self.seats, actor) else {
             return Err(ActFault::NoMemory);
@@ -106,7 +107,7 @@ impl Parts {
         random: &Bytes,
     ) -> Result<(), NoMemory>
         requires { SitsAt self.old.seats.items actor at }
-        ensures { Begins actor name.now file.now random.now self.old self.new result }
+        ensures { BeginsStore actor name.now file.now random.now self.old self.new result }
     {
         let split = OpenSplit::store(alloc, name, file, self.names.rack.geometry, random)?;
         self.begun.reserve(1)?;
@@ -118,8 +119,8 @@ impl Parts {
 
     /// The next block of the actor's split is put.
     pub(crate) fn put_next(&mut self, alloc: Global, actor: u32) -> Result<(), ActFault>
-        requires { IsReached (world_of self.old) }
-        ensures { Steps (step.PutNext actor) self.old self.new result }
+        requires { IsWorldReached (world_of self.old) }
+        ensures { ActorSteps (step.PutNext actor) self.old self.new result }
     {
         let Ok(at) = take_seat(alloc, &mut self.seats, actor) else {
             return Err(ActFault::NoMemory);
@@ -134,7 +135,7 @@ impl Parts {
 
     /// The actor's split is given up.
     pub(crate) fn abandon(&mut self, alloc: Global, actor: u32) -> Result<(), ActFault>
-        ensures { Steps (step.Abandon actor) self.old self.new result }
+        ensures { ActorSteps (step.Abandon actor) self.old self.new result }
     {
         let Ok(at) = take_seat(alloc, &mut self.seats, actor) else {
             return Err(ActFault::NoMemory);

@@ -2,9 +2,9 @@
 ghost use Rattle.std.specs.Prelude.{◌≡◌, IfOk, option_copied};
 ghost use Rattle.pot_bytes.specs.Rack.{IsRack};
 ghost use Rattle.pot_world.specs.World.{first_world};
-ghost use Rattle.pot_actors.specs.Runs.{Fetched, RunsTo};
-ghost use Rattle.pot_actors.specs.Steps.{Steps};
-ghost use Rattle.pot_actors.specs.Worlds.{IsReached, world_of};
+ghost use Rattle.pot_actors.specs.Runs.{ActorFetched, RunsTo};
+ghost use Rattle.pot_actors.specs.Steps.{ActorSteps};
+ghost use Rattle.pot_actors.specs.Worlds.{IsWorldReached, world_of};
 
 use crate::ledger::Ledger;
 use crate::parts::Parts;
@@ -31,20 +31,20 @@ pub struct World {
 
 impl Model for World {
     ghost use Rattle.pot_actors.specs.declared.parts.Parts.{Parts};
-    ghost use Rattle.pot_actors.specs.Worlds.{IsReached, world_of};
+    ghost use Rattle.pot_actors.specs.Worlds.{IsWorldReached, world_of};
 
     ghost Value = { Parts };
 
     ghost view = { λ w. w.parts };
 
-    ghost invariant = { λ w. IsReached (world_of w.parts) };
+    ghost invariant = { λ w. IsWorldReached (world_of w.parts) };
 }
 
 impl Parts {
     /// One step, if it is allowed.
     fn step(&mut self, alloc: Global, step: &Step) -> Result<(), ActFault>
-        requires { IsReached (world_of self.old) }
-        ensures { Steps step.now self.old self.new result }
+        requires { IsWorldReached (world_of self.old) }
+        ensures { ActorSteps step.now self.old self.new result }
     {
         match step {
             Step::Store {
@@ -132,7 +132,7 @@ impl World {
     /// The file that the actor's last fetch gave. None where it has not gathered m blocks of each
     /// fragment of the record that it found.
     pub fn fetched(&self, actor: u32) -> Option<&Bytes>
-        ensures { Fetched (world_of self.now) actor (option_copied result) }
+        ensures { ActorFetched (world_of self.now) actor (option_copied result) }
     {
         let at = seat_of(&self.parts.seats, actor)?;
         self.parts.seats[at].file()

@@ -9,13 +9,13 @@ use Rattle.pot_shard.specs.Places.{place_at}
 use Rattle.pot_audit.specs.declared.spot.Spot.{Spot}
 
 -- by group, and then by column
-abbrev pub IsBefore : Spot → Spot → Type 0
-IsBefore a b = (a.group < b.group) ⊎ ((a.group ≡ b.group) × (a.column < b.column))
+abbrev pub IsSpotBefore : Spot → Spot → Type 0
+IsSpotBefore a b = (a.group < b.group) ⊎ ((a.group ≡ b.group) × (a.column < b.column))
 
 -- columns of a rack, each once: its data columns stand first, and then its parity columns
 pub record AreSpots (rack : Rack) (spots : List Spot) : Type 0 where
   pub each : All (λ s. (s.group < rack.groups) × (s.column < rack.columns + rack.parity)) spots
-  pub ascend : AllPairs IsBefore spots
+  pub ascend : AllPairs IsSpotBefore spots
 
 -- whether a coalition has a column of a group
 abbrev pub has_column : List Spot → ℕ → ℕ → Bool

@@ -75,6 +75,6 @@ pub record AddsMarks (test : ℕ → Bool) (old new : List Bool) : Type 0 where
   pub each : (s : ℕ) → s < length old → is_marked new s ≡ (is_marked old s || test s)
 
 -- the stripes that pass the test are marked, and no other
-pub record AreMarked (test : ℕ → Bool) (stripes : ℕ) (marks : List Bool) : Type 0 where
+pub record AreStripesMarked (test : ℕ → Bool) (stripes : ℕ) (marks : List Bool) : Type 0 where
   pub count : length marks ≡ stripes
   pub each : (s : ℕ) → s < stripes → is_marked marks s ≡ test s

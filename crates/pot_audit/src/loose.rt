@@ -3,7 +3,8 @@ ghost use Rattle.std.specs.Prelude.{◌≡◌, ◌<◌, ◌==◌, ◌&&◌, ◌+
 ghost use Rattle.std.specs.Prelude.{set, IfOk, OnOk};
 ghost use Rattle.pot_machine.specs.Slot.{is_void};
 ghost use Rattle.pot_machine.specs.Table.{count, slot_at, width};
-ghost use Rattle.pot_audit.specs.Loose.{AddsMarks, AreMarked, has_place, is_marked, is_named};
+ghost use Rattle.pot_audit.specs.Loose.{AddsMarks, AreStripesMarked, has_place, is_marked};
+ghost use Rattle.pot_audit.specs.Loose.{is_named};
 ghost use Rattle.pot_audit.specs.Loose.{is_named_by, loose_column, loose_columns, loose_group};
 ghost use Rattle.pot_audit.specs.Loose.{loose_slots};
 
@@ -80,7 +81,7 @@ fn named_stripes(
     spot: Spot,
     stripes: u32,
 ) -> Result<Vec<bool>, NoMemory>
-    ensures { IfOk result (λ v. AreMarked (is_named records.now spot.group spot.column)
+    ensures { IfOk result (λ v. AreStripesMarked (is_named records.now spot.group spot.column)
         stripes v.items) }
 {
     let mut marks = vec![in alloc; false; stripes as usize]?;

@@ -8,7 +8,7 @@ ghost use Rattle.pot_group.specs.Group.{view_of};
 ghost use Rattle.pot_rows.specs.Ends.{HasAllParts};
 ghost use Rattle.pot_shared.specs.Catalogs.{IsIndexReady};
 ghost use Rattle.pot_shared.specs.Ready.{AreReady, IsTableOf};
-ghost use Rattle.pot_shared.specs.Sharing.{HasAllButKept, IsGroupOf};
+ghost use Rattle.pot_shared.specs.Sharing.{HasAllButKept, IsRackGroup};
 
 use crate::plain::{PlainArchive, shelf};
 use crate::rows::SEED;
@@ -145,7 +145,7 @@ fn start_group(
     shelves: Vec<Shelf<PlainArchive>>,
 ) -> Result<Member<PlainArchive>, AllocError>
     requires parity { rack.now.parity ≡ 1 }
-    ensures { IfOk result (λ m. IsGroupOf rack.now number (view_of meaning_in m.group)) }
+    ensures { IfOk result (λ m. IsRackGroup rack.now number (view_of meaning_in m.group)) }
 {
     if !is_of_rack(&table, rack) || !are_homes(table.columns(), &shelves) {
         return Err(AllocError);
@@ -171,7 +171,7 @@ fn start_groups(
     requires parity { rack.now.parity ≡ 1 }
     ensures count { IfOk result (λ v. length v.items ≡ rack.now.groups) }
     ensures groups { IfOk result (λ v. (n : ℕ) (m : _) → slice_get v.items n ≡ Some m
-        → IsGroupOf rack.now n (view_of meaning_in m.group)) }
+        → IsRackGroup rack.now n (view_of meaning_in m.group)) }
 {
     let mut tables = tables.into_iter();
     let mut archives = archives.into_iter();

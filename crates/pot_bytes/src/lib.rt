@@ -1,5 +1,5 @@
-//! Plain values that every layer speaks of: blocks, digests, byte strings, names, racks and places; the XOR of
-//! lists, and the product of FIPS 197 over bytes and lists.
+//! Plain values that every layer speaks of: blocks, digests, byte strings, names, racks and places;
+//! the XOR of lists, and the product of FIPS 197 over bytes and lists.
 //!
 //! It knows no archive, no format and no file. Its calls take no memory and refuse nothing, but for
 //! what their answers say.

@@ -11,8 +11,8 @@ use crate::block::put_front;
 use std::cmp::Ordering;
 use std::marker::Model;
 
-/// The name of a stored file: 1 to 64 bytes of `a-z`, `0-9`, `.`, `_` and `-`. Contracts see the list
-/// of its bytes.
+/// The name of a stored file: 1 to 64 bytes of `a-z`, `0-9`, `.`, `_` and `-`. Contracts see the
+/// list of its bytes.
 #[derive(Clone, Copy)]
 pub struct Name {
     count: u8,

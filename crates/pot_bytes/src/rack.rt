@@ -1,4 +1,5 @@
-//! The shape of an archive: how files are split, how many groups there are, and where a block stands.
+//! The shape of an archive: how files are split, how many groups there are, and where a block
+//! stands.
 ghost use Rattle.std.specs.Prelude.{◌↔◌, IsTrue};
 ghost use Rattle.pot_bytes.specs.Rack.{FitsIn, IsRack};
 
@@ -45,8 +46,9 @@ pub struct Place {
 }
 
 impl Geometry {
-    /// Whether files may be split so over this many groups: 2 to 8 fragments, a threshold of at least 1 and at most
-    /// the number of shards, at most 16 shards and at most as many as groups, and a blur of at most 63.
+    /// Whether files may be split so over this many groups: 2 to 8 fragments, a threshold of at
+    /// least 1 and at most the number of shards, at most 16 shards and at most as many as groups,
+    /// and a blur of at most 63.
     pub fn fits(&self, groups: u8) -> bool
         ensures { IsTrue result ↔ FitsIn groups self.now }
     {
@@ -61,9 +63,10 @@ impl Geometry {
 }
 
 impl Rack {
-    /// Whether the rack is within the limits: 2 to 8 fragments, a threshold of at least 1 and at most
-    /// the number of shards, at most 16 shards, at least as many groups as shards and at most 16,
-    /// 1 to 16 data columns, one or two parity columns, 1 to 4,096 stripes, and a blur of at most 63.
+    /// Whether the rack is within the limits: 2 to 8 fragments, a threshold of at least 1 and at
+    /// most the number of shards, at most 16 shards, at least as many groups as shards and at most
+    /// 16, 1 to 16 data columns, one or two parity columns, 1 to 4,096 stripes, and a blur of at
+    /// most 63.
     pub fn fits(&self) -> bool
         ensures { IsTrue result ↔ IsRack self.now }
     {

@@ -10,7 +10,7 @@ use Rattle.pot_chains.specs.Paths.{last_of}
 use Rattle.pot_chains.proofs.ListedLemmas.{listed_same, listed_append, listed_map, range_listed, once_append, in_append}
 use Rattle.pot_chains.proofs.ChainLemmas.{unsnoc}
 use Rattle.pot_chains.specs.Levels.{IsPathFrom, IsPath, IsPathBelow, AreLevels, StepAt}
-use Rattle.pot_chains.specs.Steps.{end_of, IsMeant, IsLonger, IsStart}
+use Rattle.pot_chains.specs.Steps.{end_of, IsPointedAt, IsLonger, IsStart}
 use Rattle.pot_chains.specs.declared.levels.Level.{Level}
 
 module _ (bits : ℕ) where
@@ -30,12 +30,12 @@ module _ (bits : ℕ) where
 
   -- the step at level t, by the two levels
   step_is : (levels : List Level) (t : ℕ) (a b : Level) (q u : ℕ) → suc t < length levels → a ≡ get_or levels t a → b ≡ get_or levels (suc t) b
-      → StepAt bits levels t q u ↔ IsMeant a.pointers.items b.index bits q u
+      → StepAt bits levels t q u ↔ IsPointedAt a.pointers.items b.index bits q u
   step_is [] t a b q u h ea eb = absurd (omega arith)
   step_is (c ∷ []) t a b q u h ea eb = absurd (omega arith)
   step_is (c ∷ (d ∷ rest)) zero a b q u h ea eb = (
-    λ s. subst (λ (x : Level). IsMeant x.pointers.items b.index bits q u) (sym ea) (subst (λ (y : Level). IsMeant c.pointers.items y.index bits q u) (sym eb) s),
-    λ s. subst (λ (x : Level). IsMeant x.pointers.items d.index bits q u) ea (subst (λ (y : Level). IsMeant a.pointers.items y.index bits q u) eb s),
+    λ s. subst (λ (x : Level). IsPointedAt x.pointers.items b.index bits q u) (sym ea) (subst (λ (y : Level). IsPointedAt c.pointers.items y.index bits q u) (sym eb) s),
+    λ s. subst (λ (x : Level). IsPointedAt x.pointers.items d.index bits q u) ea (subst (λ (y : Level). IsPointedAt a.pointers.items y.index bits q u) eb s),
   )
   step_is (c ∷ (d ∷ rest)) (suc t) a b q u h ea eb = step_is (d ∷ rest) t a b q u (omega arith) ea eb
 
@@ -69,7 +69,7 @@ module _ (bits : ℕ) where
       to : (y : List ℕ) → IsLonger a.pointers.items b.index bits chains y → IsPath bits (first ∷ rest) (suc t) y
       to y (chain, there, q, meant, e) = subst (IsPath bits (first ∷ rest) (suc t)) e (one chain ((is.each chain).0 there) meant)
         where
-          one : (chain : List ℕ) → IsPath bits (first ∷ rest) t chain → IsMeant a.pointers.items b.index bits (end_of chain) q → IsPath bits (first ∷ rest) (suc t) (chain ++ q ∷ [])
+          one : (chain : List ℕ) → IsPath bits (first ∷ rest) t chain → IsPointedAt a.pointers.items b.index bits (end_of chain) q → IsPath bits (first ∷ rest) (suc t) (chain ++ q ∷ [])
           one [] h meant = absurd h
           one (p ∷ ps) h meant = (
             h.0,

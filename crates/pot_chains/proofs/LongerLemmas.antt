@@ -9,7 +9,7 @@ use Rattle.pot_chains.specs.Listed.{IsIn, IsOnce, IsListed, IsNumber}
 use Rattle.pot_chains.specs.Paths.{last_of}
 use Rattle.pot_chains.proofs.ListedLemmas.{listed_append, listed_map_on, listed_same, once_from_pairs, in_from_contains, contains_from_in, in_take, in_take_more, not_in_front, number_at_least, in_get_or}
 use Rattle.pot_chains.proofs.ChainLemmas.{more_same}
-use Rattle.pot_chains.specs.Steps.{end_of, with_candidate, IsMeant, IsLonger}
+use Rattle.pot_chains.specs.Steps.{end_of, with_candidate, IsPointedAt, IsLonger}
 
 last_of_front : (p : ℕ) (ps : List ℕ) (n : ℕ) → n ≤ length ps → last_of p (take n ps) ≡ get_or (p ∷ ps) n 0
 last_of_front p ps zero h = refl
@@ -30,7 +30,7 @@ before_is_strict e (inr both) = omega (arith, both.1)
 module _ (pointers names : List ℕ) (bits : ℕ) where
   -- what is found for one chain
   abbrev pub IsLongerOf : List ℕ → List ℕ → Type 0
-  IsLongerOf chain y = (q : ℕ) × IsMeant pointers names bits (end_of chain) q × (chain ++ q ∷ [] ≡ y)
+  IsLongerOf chain y = (q : ℕ) × IsPointedAt pointers names bits (end_of chain) q × (chain ++ q ∷ [] ≡ y)
 
   pub candidates_listed : (chain : List ℕ) (found : List Named)
       → ((e : Named) → Contains found e ↔ IsCandidate names (slice_index pointers (end_of chain)) bits e)
@@ -68,7 +68,7 @@ module _ (pointers names : List ℕ) (bits : ℕ) where
         ],
         λ w. elim ((in_take_more i chains d w.0 inside).0 w.1) [
           | inl front ↦ inl (w.0, front, w.2, w.3, w.4)
-          | inr is ↦ inr (w.2, subst (λ c. IsMeant pointers names bits (end_of c) w.2) (sym is) w.3, subst (λ c. c ++ w.2 ∷ [] ≡ y) (sym is) w.4)
+          | inr is ↦ inr (w.2, subst (λ c. IsPointedAt pointers names bits (end_of c) w.2) (sym is) w.3, subst (λ c. c ++ w.2 ∷ [] ≡ y) (sym is) w.4)
         ],
       ))
       (listed_append (IsLonger pointers names bits (take i chains)) (IsLongerOf chain) xs ys before here

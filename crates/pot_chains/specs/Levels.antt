@@ -1,6 +1,6 @@
 -- Chains of positions through levels, one for each point.
 use Rattle.std.specs.Prelude.{◌≡◌, ◌<◌, ℕ, zero, suc, ◌^◌, List, [], ◌∷◌, length}
-use Rattle.pot_chains.specs.Steps.{IsMeant}
+use Rattle.pot_chains.specs.Steps.{IsPointedAt}
 use Rattle.pot_chains.specs.declared.levels.Level.{Level}
 
 -- what follows position p of the first level: at each next level one that the pointer of the last
@@ -10,7 +10,7 @@ IsPathFrom bits levels p [] = Unit {0}
 IsPathFrom bits [] p (q ∷ qs) = ⊥
 IsPathFrom bits (a ∷ []) p (q ∷ qs) = ⊥
 IsPathFrom bits (a ∷ (b ∷ rest)) p (q ∷ qs) =
-    IsMeant a.pointers.items b.index bits p q × IsPathFrom bits (b ∷ rest) q qs
+    IsPointedAt a.pointers.items b.index bits p q × IsPathFrom bits (b ∷ rest) q qs
 
 -- a chain of n + 1 from the first level on
 abbrev pub IsPath : ℕ → List Level → ℕ → List ℕ → Type 0
@@ -36,5 +36,5 @@ AreLevels (a ∷ rest) = IsLevel a × AreLevels rest
 abbrev pub StepAt : ℕ → List Level → ℕ → ℕ → ℕ → Type 0
 StepAt bits [] t q u = ⊥
 StepAt bits (a ∷ []) t q u = ⊥
-StepAt bits (a ∷ (b ∷ rest)) zero q u = IsMeant a.pointers.items b.index bits q u
+StepAt bits (a ∷ (b ∷ rest)) zero q u = IsPointedAt a.pointers.items b.index bits q u
 StepAt bits (a ∷ (b ∷ rest)) (suc t) q u = StepAt bits (b ∷ rest) t q u

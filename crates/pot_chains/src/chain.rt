@@ -12,13 +12,13 @@ pub struct Chain {
 
 impl Model for Chain {
     ghost use Rattle.std.specs.Prelude.{◌≡◌, ◌≤◌, List, ℕ, length, take};
-    ghost use Rattle.pot_chains.specs.Steps.{IsRoom};
+    ghost use Rattle.pot_chains.specs.Steps.{IsPositionCount};
 
     ghost Value = { List ℕ };
 
     ghost view = { λ c. take c.count c.positions };
 
-    ghost invariant = { λ c. IsRoom c.count c.positions };
+    ghost invariant = { λ c. IsPositionCount c.count c.positions };
 }
 
 impl Chain {

@@ -17,8 +17,9 @@ pub struct Level {
     pub index: RegionIndex,
 }
 
-/// The chains from the first level to the last, in which each is linked to the next. All chains that begin at the first
-/// level are counted, the shorter ones too. `count` is that of the chains before, and grows by theirs.
+/// The chains from the first level to the last, in which each is linked to the next. All chains
+/// that begin at the first level are counted, the shorter ones too. `count` is that of the chains
+/// before, and grows by theirs.
 pub fn paths(
     alloc: Global,
     levels: &[Level],

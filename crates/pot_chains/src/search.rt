@@ -17,8 +17,8 @@ pub enum SearchFault {
     NoMemory,
 }
 
-/// Each chain, longer by each candidate of the pointer of its last. `count` is that of the chains found before, and
-/// grows by those found now.
+/// Each chain, longer by each candidate of the pointer of its last. `count` is that of the chains
+/// found before, and grows by those found now.
 pub fn longer(
     alloc: Global,
     chains: &[Chain],

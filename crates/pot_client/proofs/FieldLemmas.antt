@@ -7,9 +7,9 @@ use Rattle.hex.specs.declared.error.FromHexError.{FromHexError}
 use Rattle.hex.proofs.HexLemmas.{decode_of-encode_lower}
 use Rattle.pot_bytes.specs.declared.digest.Digest.{Digest}
 use Rattle.pot_script.specs.declared.reply.Reply.TheVariants as replies
-use Rattle.pot_client.specs.ReplyWords.{IsNumber, IsByte, IsDigest, IsReply, fields}
+use Rattle.pot_client.specs.ReplyWords.{IsReplyNumber, IsByte, IsByteDigest, IsReply, fields}
 
-one : (m n : ℕ) → IsNumber m → IsNumber n → decimal m ≡ decimal n → m ≡ n
+one : (m n : ℕ) → IsReplyNumber m → IsReplyNumber n → decimal m ≡ decimal n → m ≡ n
 one m n p q e = decimal_injective m n (omega (arith, p)) (omega (arith, q)) e
 
 pub second_of : (v w : List ℕ) (vs ws : List (List ℕ)) → v ∷ vs ≡ w ∷ ws → vs ≡ ws
@@ -21,16 +21,16 @@ third_of {words} v w v' w' vs ws e f = both (sym e ∙ f)
     both : v ∷ w ∷ vs ≡ v' ∷ w' ∷ ws → vs ≡ ws
     both e = cc
 
-pub same_number : (m n : ℕ) → IsNumber m → IsNumber n → decimal m ∷ [] ≡ decimal n ∷ [] → m ≡ n
+pub same_number : (m n : ℕ) → IsReplyNumber m → IsReplyNumber n → decimal m ∷ [] ≡ decimal n ∷ [] → m ≡ n
 same_number m n p q e = one m n p q (cc)
 
-pub same_sized : (a b : List ℕ) (m n : ℕ) → IsNumber m → IsNumber n → a ∷ decimal m ∷ [] ≡ b ∷ decimal n ∷ [] → ◌≡◌ {A = List ℕ × ℕ} (a, m) (b, n)
+pub same_sized : (a b : List ℕ) (m n : ℕ) → IsReplyNumber m → IsReplyNumber n → a ∷ decimal m ∷ [] ≡ b ∷ decimal n ∷ [] → ◌≡◌ {A = List ℕ × ℕ} (a, m) (b, n)
 same_sized a b m n p q e =
     let name : a ≡ b = cc in
     let number = one m n p q (cc) in
     ap {B = List ℕ × ℕ} (λ (t : List ℕ). (t, m)) name ∙ ap {B = List ℕ × ℕ} (λ (t : ℕ). (b, t)) number
 
-pub same_split : (a b : List ℕ) (m n m' n' : ℕ) → IsNumber m → IsNumber n → IsNumber m' → IsNumber n' → a ∷ decimal m ∷ decimal m' ∷ [] ≡ b ∷ decimal n ∷ decimal n' ∷ [] → ◌≡◌ {A = List ℕ × ℕ × ℕ} (a, m, m') (b, n, n')
+pub same_split : (a b : List ℕ) (m n m' n' : ℕ) → IsReplyNumber m → IsReplyNumber n → IsReplyNumber m' → IsReplyNumber n' → a ∷ decimal m ∷ decimal m' ∷ [] ≡ b ∷ decimal n ∷ decimal n' ∷ [] → ◌≡◌ {A = List ℕ × ℕ × ℕ} (a, m, m') (b, n, n')
 same_split a b m n m' n' p q p' q' e =
     let name : a ≡ b = cc in
     let number = one m n p q (cc) in
@@ -43,7 +43,7 @@ same_two m n m' n' p q p' q' e =
     let number' = one m' n' (omega (arith, p')) (omega (arith, q')) (cc) in
     ap {B = ℕ × ℕ} (λ (t : ℕ). (t, m')) number ∙ ap {B = ℕ × ℕ} (λ (t : ℕ). (n, t)) number'
 
-pub same_three : (m n m' n' k l : ℕ) → IsNumber m → IsNumber n → IsNumber m' → IsNumber n' → IsNumber k → IsNumber l → decimal m ∷ decimal m' ∷ decimal k ∷ [] ≡ decimal n ∷ decimal n' ∷ decimal l ∷ [] → ◌≡◌ {A = ℕ × ℕ × ℕ} (m, m', k) (n, n', l)
+pub same_three : (m n m' n' k l : ℕ) → IsReplyNumber m → IsReplyNumber n → IsReplyNumber m' → IsReplyNumber n' → IsReplyNumber k → IsReplyNumber l → decimal m ∷ decimal m' ∷ decimal k ∷ [] ≡ decimal n ∷ decimal n' ∷ decimal l ∷ [] → ◌≡◌ {A = ℕ × ℕ × ℕ} (m, m', k) (n, n', l)
 same_three m n m' n' k l p q p' q' r s e =
     let first = one m n p q (cc) in
     let second = one m' n' p' q' (cc) in
@@ -97,7 +97,7 @@ digest_is d = refl
 same_Ok : (a b : List ℕ) → ◌≡◌ {A = Result (List ℕ) FromHexError} (Ok a) (Ok b) → a ≡ b
 same_Ok a b e = cc
 
-pub same_digest : (d d' : Digest) → IsDigest d → IsDigest d' → encode_lower d.bytes ≡ encode_lower d'.bytes → d ≡ d'
+pub same_digest : (d d' : Digest) → IsByteDigest d → IsByteDigest d' → encode_lower d.bytes ≡ encode_lower d'.bytes → d ≡ d'
 same_digest d d' p q e =
     let bytes : d.bytes ≡ d'.bytes = same_Ok d.bytes d'.bytes (sym (decode_of-encode_lower d.bytes p.1) ∙ ap decode_of e ∙ decode_of-encode_lower d'.bytes q.1) in
     digest_is d ∙ ap digest_with bytes ∙ sym (digest_is d')

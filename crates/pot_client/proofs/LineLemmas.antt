@@ -1,4 +1,5 @@
--- The first lines of replies: the words of a line tell its reply, and neither a space nor a LF stands in a word.
+-- The first lines of replies: the words of a line tell its reply, and neither a space nor a LF
+-- stands in a word.
 use Rattle.std.proofs.Common.{◌≡◌, ◌≢◌, ◌≤◌, ◌<◌, ◌/◌, ◌%◌, ℕ, suc, true, false, List, [], ◌∷◌, ◌++◌, length, get_or, refl, sym, ap, subst, ◌∙◌, append_assoc, length-append, arith}
 use Rattle.std.specs.Prelude.{All, codes, decimal, flat_map, nat_le}
 use Rattle.std.specs.List.{join_with_byte, list_all}
@@ -22,13 +23,14 @@ use Rattle.pot_script.proofs.WordLemmas.{Without, not_without, one_cut, some_wor
 use Rattle.pot_client.specs.declared.kind.ReplyKind.{ReplyKind}
 use Rattle.pot_client.specs.declared.kind.ReplyKind.TheVariants as kinds
 use Rattle.pot_client.specs.ReplyKinds.{keyword, kind_of}
-use Rattle.pot_client.specs.ReplyTexts.{Begins, IsLineOf, NoReplyAt}
-use Rattle.pot_client.specs.ReplyWords.{IsDigest, IsListing, IsNumber, IsReply, behind, fields}
+use Rattle.pot_client.specs.ReplyTexts.{BeginsReply, IsReplyLineOf, NoReplyAt}
+use Rattle.pot_client.specs.ReplyWords.{IsByteDigest, IsListing, IsReplyNumber, IsReply, behind, fields}
 use Rattle.pot_client.proofs.KindLemmas.{keyword_injective}
 
 -- WHAT STANDS IN NO WORD
 
--- the byte may separate words or lines: it stands in no name, and is less than each digit and letter
+-- the byte may separate words or lines: it stands in no name, and is less than each digit and
+-- letter
 record IsBreak (byte : ℕ) : Type 0 where
   name : is_name_byte byte ≡ false
   low : byte < 48
@@ -49,17 +51,17 @@ high-without byte at bytes high k d lt e = omega (arith, high k d lt, at.low, e)
 name-without : (byte : ℕ) → IsBreak byte → (name : List ℕ) → IsName name → Without byte name
 name-without byte at name is k d lt e = true≢false (sym (is.each k d lt) ∙ ap is_name_byte e ∙ at.name)
 
-digits_of : (n : ℕ) → IsNumber n → (k d : ℕ) → k < length (decimal n) → (48 ≤ get_or (decimal n) k d) × (get_or (decimal n) k d ≤ 57)
+digits_of : (n : ℕ) → IsReplyNumber n → (k d : ℕ) → k < length (decimal n) → (48 ≤ get_or (decimal n) k d) × (get_or (decimal n) k d ≤ 57)
 digits_of n small k d lt =
     let range = digit_at (decimal n) k (IsDecimal-decimal n (omega arith)).digits lt in
     let same = get_or_default (decimal n) k d 0 lt in
     (omega (arith, range, same), omega (arith, range, same))
 
-number-without : (byte : ℕ) → IsBreak byte → (n : ℕ) → IsNumber n → Without byte (decimal n)
+number-without : (byte : ℕ) → IsBreak byte → (n : ℕ) → IsReplyNumber n → Without byte (decimal n)
 number-without byte at n small = high-without byte at (decimal n) (λ k d lt. (digits_of n small k d lt).0)
 
 -- a number is no word of letters
-pub index_no_number : (n : ℕ) → IsNumber n → decimal n ≢ codes "index"
+pub index_no_number : (n : ℕ) → IsReplyNumber n → decimal n ≢ codes "index"
 index_no_number n small e =
     let first : get_or (decimal n) 0 0 ≡ 105 = ap (λ (l : List ℕ). get_or l 0 0) e in
     let some : 0 < length (decimal n) = omega (arith, ap (λ (l : List ℕ). length l) e) in
@@ -76,7 +78,7 @@ hex_high (b ∷ rest) are =
     All-cons (λ b. 48 ≤ b) (get_or lower_digits (b / 16) 0) (get_or lower_digits (b % 16) 0 ∷ encode_with lower_digits rest) (hex_digit (b / 16) (omega arith))
     (All-cons (λ b. 48 ≤ b) (get_or lower_digits (b % 16) 0) (encode_with lower_digits rest) (hex_digit (b % 16) (omega arith)) (hex_high rest (λ i. are (suc i))))
 
-digest-without : (byte : ℕ) → IsBreak byte → (d : Digest) → IsDigest d → Without byte (encode_lower d.bytes)
+digest-without : (byte : ℕ) → IsBreak byte → (d : Digest) → IsByteDigest d → Without byte (encode_lower d.bytes)
 digest-without byte at d is = high-without byte at (encode_lower d.bytes) (hex_high d.bytes is.1)
 
 keyword_high : (kind : ReplyKind) → list_all (nat_le 48) (keyword kind) ≡ true
@@ -118,16 +120,16 @@ module _ (byte : ℕ) (at : IsBreak byte) where
   named : {ws : List (List ℕ)} (name : List ℕ) → IsName name → StandsInNone byte ws → StandsInNone byte (name ∷ ws)
   named name is q = word name (name-without byte at name is) q
 
-  number : {ws : List (List ℕ)} (n : ℕ) → IsNumber n → StandsInNone byte ws → StandsInNone byte (decimal n ∷ ws)
+  number : {ws : List (List ℕ)} (n : ℕ) → IsReplyNumber n → StandsInNone byte ws → StandsInNone byte (decimal n ∷ ws)
   number n small q = word (decimal n) (number-without byte at n small) q
 
-  digest : {ws : List (List ℕ)} (d : Digest) → IsDigest d → StandsInNone byte ws → StandsInNone byte (encode_lower d.bytes ∷ ws)
+  digest : {ws : List (List ℕ)} (d : Digest) → IsByteDigest d → StandsInNone byte ws → StandsInNone byte (encode_lower d.bytes ∷ ws)
   digest d is q = word (encode_lower d.bytes) (digest-without byte at d is) q
 
-  two_numbers : (m n : ℕ) → IsNumber m → IsNumber n → StandsInNone byte (decimal m ∷ decimal n ∷ [])
+  two_numbers : (m n : ℕ) → IsReplyNumber m → IsReplyNumber n → StandsInNone byte (decimal m ∷ decimal n ∷ [])
   two_numbers m n p q = number m p (number n q none)
 
-  three_numbers : (l m n : ℕ) → IsNumber l → IsNumber m → IsNumber n → StandsInNone byte (decimal l ∷ decimal m ∷ decimal n ∷ [])
+  three_numbers : (l m n : ℕ) → IsReplyNumber l → IsReplyNumber m → IsReplyNumber n → StandsInNone byte (decimal l ∷ decimal m ∷ decimal n ∷ [])
   three_numbers l m n p q r = number l p (two_numbers m n q r)
 
   in_no_field : (r : Reply) → IsReply r → StandsInNone byte (fields r)
@@ -174,8 +176,8 @@ words_in-reply_line r is = words_in-join (keyword (kind_of r)) (fields r) (in_no
 pub reply_line-without : (r : Reply) → IsReply r → Without 10 (reply_line r)
 reply_line-without r is = join-without 10 (keyword (kind_of r) ∷ fields r) (omega arith) (in_no_word 10 line_end r is)
 
--- The parts of a line in a row are its words joined, where each part but the first begins with the space before it, and the
--- LF behind them.
+-- The parts of a line in a row are its words joined, where each part but the first begins with the
+-- space before it, and the LF behind them.
 row_one : (k a end t : List ℕ) → k ++ a ++ end ++ t ≡ (k ++ a) ++ (end ++ t)
 row_one k a end t = simp append_assoc
 
@@ -265,7 +267,7 @@ module _ (bytes line rest word : List ℕ) (others : List (List ℕ)) (cut : Cut
   no_kind none r after is e = none (kind_of r) (first_of r after is e).0
 
   module _ (kind : ReplyKind) (told : word ≡ keyword kind) where
-    told_by_line : (r : Reply) (after : List ℕ) → IsReply r → bytes ≡ reply_text r ++ after → IsLineOf kind others r × (rest ≡ behind r ++ after)
+    told_by_line : (r : Reply) (after : List ℕ) → IsReply r → bytes ≡ reply_text r ++ after → IsReplyLineOf kind others r × (rest ≡ behind r ++ after)
     told_by_line r after is e =
         let first = first_of r after is e in (
           record {
@@ -276,11 +278,11 @@ module _ (bytes line rest word : List ℕ) (others : List (List ℕ)) (cut : Cut
           (ends_line r after bytes line rest is cut e).1,
         )
 
-    stands : (r : Reply) (after : List ℕ) → IsLineOf kind others r → rest ≡ behind r ++ after → bytes ≡ reply_text r ++ after
+    stands : (r : Reply) (after : List ℕ) → IsReplyLineOf kind others r → rest ≡ behind r ++ after → bytes ≡ reply_text r ++ after
     stands r after at follows =
         let line_is : line ≡ reply_line r =
         join-words_in line ∙ ap (join_with_byte 32) (words ∙ ap (λ (w : List ℕ). w ∷ others) (told ∙ ap keyword (sym at.kind_is)) ∙ ap (λ (ws : List (List ℕ)). keyword (kind_of r) ∷ ws) at.words_are) in
         cut.whole ∙ ap (λ (l : List ℕ). l ++ 10 ∷ rest) line_is ∙ ap (λ (t : List ℕ). reply_line r ++ 10 ∷ t) follows ∙ sym (text_at_line r after)
 
-    pub begins : Begins bytes kind others rest
+    pub begins : BeginsReply bytes kind others rest
     begins r after is = (λ e. told_by_line r after is e, λ h. stands r after h.0 h.1)

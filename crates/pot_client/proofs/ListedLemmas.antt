@@ -10,7 +10,7 @@ use Rattle.pot_script.specs.Words.{words_in}
 use Rattle.pot_script.proofs.CommandLemmas.{first_words}
 use Rattle.pot_script.proofs.WordLemmas.{Without, not_without, one_cut, some_words, join-words_in}
 use Rattle.pot_client.specs.ReplyTexts.{NoListedAt}
-use Rattle.pot_client.specs.ReplyWords.{IsListing, IsNumber}
+use Rattle.pot_client.specs.ReplyWords.{IsListing, IsReplyNumber}
 use Rattle.pot_client.proofs.FieldLemmas.{same_sized}
 use Rattle.pot_client.proofs.LineLemmas.{listed_line, words_in-listed_line, listed_line-without, listed_at_line}
 use Rattle.pot_client.proofs.SequenceLemmas.{IsCode}
@@ -53,7 +53,7 @@ module _ (bytes left line rest : List ℕ) (same : left ≡ bytes) (cut : Cuts l
     other_first_word other l after is e = other (words_are l after is e).0
 
     -- nor where the others are not a name and a number
-    pub other_words : ((t : List ℕ × ℕ) → IsName t.0 × IsNumber t.1 × (others ≡ t.0 ∷ decimal t.1 ∷ []) → ⊥) → NoListedAt bytes
+    pub other_words : ((t : List ℕ × ℕ) → IsName t.0 × IsReplyNumber t.1 × (others ≡ t.0 ∷ decimal t.1 ∷ []) → ⊥) → NoListedAt bytes
     other_words none l after is e = none (l.name, l.length) (is.0, is.1, (words_are l after is e).1)
 
     pub listed_stands : (name : List ℕ) (len len' : ℕ) → word ≡ codes "name" → others ≡ name ∷ decimal len ∷ [] → len' ≡ len

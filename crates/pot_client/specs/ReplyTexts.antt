@@ -11,44 +11,44 @@ use Rattle.pot_script.specs.declared.reply.Reply.{Reply}
 use Rattle.pot_script.specs.Replies.{listed_text, reply_text}
 use Rattle.pot_client.specs.declared.kind.ReplyKind.{ReplyKind}
 use Rattle.pot_client.specs.ReplyKinds.{kind_of}
-use Rattle.pot_client.specs.ReplyWords.{IsDigest, IsListing, IsNumber, IsReply, behind, fields}
+use Rattle.pot_client.specs.ReplyWords.{IsByteDigest, IsListing, IsReplyNumber, IsReply, behind, fields}
 
 -- this reply is of this kind, and its first line has these words behind its first
-pub record IsLineOf (kind : ReplyKind) (words : List (List ℕ)) (r : Reply) : Type 0 where
+pub record IsReplyLineOf (kind : ReplyKind) (words : List (List ℕ)) (r : Reply) : Type 0 where
   pub kind_is : kind_of r ≡ kind
   pub is : IsReply r
   pub words_are : words ≡ fields r
 
 -- the reply of such a line; None exactly where no reply has it
-abbrev pub ReadsLine : ReplyKind → List (List ℕ) → Option Reply → Type 0
-ReadsLine kind words result =
-    MatchOption result ((r : Reply) → IsLineOf kind words r → ⊥) (IsLineOf kind words)
+abbrev pub ReadsReplyLine : ReplyKind → List (List ℕ) → Option Reply → Type 0
+ReadsReplyLine kind words result =
+    MatchOption result ((r : Reply) → IsReplyLineOf kind words r → ⊥) (IsReplyLineOf kind words)
 
 -- the text of no reply stands at the front of these bytes
 abbrev pub NoReplyAt : List ℕ → Type 0
 NoReplyAt bytes = (r : Reply) (after : List ℕ) → IsReply r → bytes ≢ reply_text r ++ after
 
 -- the text of this reply stands there, and these bytes behind it
-abbrev pub StandsAt : List ℕ → List ℕ → Reply → Type 0
-StandsAt bytes after r = IsReply r × (bytes ≡ reply_text r ++ after)
+abbrev pub ReplyStandsAt : List ℕ → List ℕ → Reply → Type 0
+ReplyStandsAt bytes after r = IsReply r × (bytes ≡ reply_text r ++ after)
 
 -- the reply that is next was taken off the bytes; None exactly where none is, and then nothing was
 abbrev pub TakesNext : List ℕ → List ℕ → Option Reply → Type 0
-TakesNext old new result = MatchOption result (NoReplyAt old × (new ≡ old)) (StandsAt old new)
+TakesNext old new result = MatchOption result (NoReplyAt old × (new ≡ old)) (ReplyStandsAt old new)
 
 -- which reply stands at the front of the bytes is told by its line and by what stands behind that
-abbrev pub Begins : List ℕ → ReplyKind → List (List ℕ) → List ℕ → Type 0
-Begins bytes kind words rest =
+abbrev pub BeginsReply : List ℕ → ReplyKind → List (List ℕ) → List ℕ → Type 0
+BeginsReply bytes kind words rest =
     (r : Reply) (after : List ℕ) → IsReply r →
-    (bytes ≡ reply_text r ++ after) ↔ (IsLineOf kind words r × (rest ≡ behind r ++ after))
+    (bytes ≡ reply_text r ++ after) ↔ (IsReplyLineOf kind words r × (rest ≡ behind r ++ after))
 
 -- the reply of such a line, and what stands behind the line was taken; None exactly where there is
 -- none
 abbrev pub EndsReply : ReplyKind → List (List ℕ) → List ℕ → List ℕ → Option Reply → Type 0
 EndsReply kind words old new result =
     MatchOption result
-    ((r : Reply) (after : List ℕ) → IsLineOf kind words r → old ≢ behind r ++ after)
-    (λ r. IsLineOf kind words r × (old ≡ behind r ++ new))
+    ((r : Reply) (after : List ℕ) → IsReplyLineOf kind words r → old ≢ behind r ++ after)
+    (λ r. IsReplyLineOf kind words r × (old ≡ behind r ++ new))
 
 -- the line of no published name stands at the front of these bytes
 abbrev pub NoListedAt : List ℕ → Type 0
@@ -75,15 +75,15 @@ TakesNames count old new result =
 abbrev pub TakesCount : List ℕ → List (List ℕ) → List (List ℕ) → Option ℕ → Type 0
 TakesCount word old new result =
     MatchOption result
-    ((n : ℕ) (others : List (List ℕ)) → IsNumber n → old ≢ word ∷ decimal n ∷ others)
-    (λ n. IsNumber n × (old ≡ word ∷ decimal n ∷ new))
+    ((n : ℕ) (others : List (List ℕ)) → IsReplyNumber n → old ≢ word ∷ decimal n ∷ others)
+    (λ n. IsReplyNumber n × (old ≡ word ∷ decimal n ∷ new))
 
 -- the digest of which this is the text; None exactly where it is that of none
 abbrev pub ReadsDigest : List ℕ → Option Digest → Type 0
 ReadsDigest word result =
     MatchOption result
-    ((d : Digest) → IsDigest d → word ≢ encode_lower d.bytes)
-    (λ d. IsDigest d × (word ≡ encode_lower d.bytes))
+    ((d : Digest) → IsByteDigest d → word ≢ encode_lower d.bytes)
+    (λ d. IsByteDigest d × (word ≡ encode_lower d.bytes))
 
 -- the bytes are the texts of these replies
 abbrev pub ArePrinted : List ℕ → List Reply → Type 0

@@ -51,46 +51,46 @@ behind (replies.Names names) = flat_map listed_text names
 behind _ = []
 
 -- a number of 32 bits
-abbrev pub IsNumber : ℕ → Type 0
-IsNumber n = n ≤ 4294967295
+abbrev pub IsReplyNumber : ℕ → Type 0
+IsReplyNumber n = n ≤ 4294967295
 
 -- a number of 8 bits
 abbrev pub IsByte : ℕ → Type 0
 IsByte n = n ≤ 255
 
 -- 32 bytes
-abbrev pub IsDigest : Digest → Type 0
-IsDigest d = (length d.bytes ≡ 32) × IsBytes d.bytes
+abbrev pub IsByteDigest : Digest → Type 0
+IsByteDigest d = (length d.bytes ≡ 32) × IsBytes d.bytes
 
 -- a published name whose length has 32 bits
 abbrev pub IsListing : Listed → Type 0
-IsListing l = IsName l.name × IsNumber l.length
+IsListing l = IsName l.name × IsReplyNumber l.length
 
 -- a reply whose names are names, and whose numbers have the bits of their types; a length has 32
 -- bits
 abbrev pub IsReply : Reply → Type 0
-IsReply (replies.Stored name pieces shards) = IsName name × IsNumber pieces × IsNumber shards
-IsReply (replies.File name bytes) = IsName name × IsNumber (length bytes)
-IsReply (replies.Names names) = IsNumber (length names) × AllByRecursion IsListing names
+IsReply (replies.Stored name pieces shards) = IsName name × IsReplyNumber pieces × IsReplyNumber shards
+IsReply (replies.File name bytes) = IsName name × IsReplyNumber (length bytes)
+IsReply (replies.Names names) = IsReplyNumber (length names) × AllByRecursion IsListing names
 IsReply (replies.Group group live lost broken stripe column) =
-    IsByte group × IsNumber live × IsNumber lost × IsNumber broken × IsNumber stripe × IsByte column
-IsReply (replies.Scrubbed group seen gone) = IsByte group × IsNumber seen × IsNumber gone
-IsReply (replies.Repaired group mended left) = IsByte group × IsNumber mended × IsNumber left
-IsReply (replies.Replaced from to slots) = IsNumber from × IsNumber to × IsNumber slots
-IsReply (replies.Migrated from to slots) = IsNumber from × IsNumber to × IsNumber slots
-IsReply (replies.Long name len) = IsName name × IsNumber len
+    IsByte group × IsReplyNumber live × IsReplyNumber lost × IsReplyNumber broken × IsReplyNumber stripe × IsByte column
+IsReply (replies.Scrubbed group seen gone) = IsByte group × IsReplyNumber seen × IsReplyNumber gone
+IsReply (replies.Repaired group mended left) = IsByte group × IsReplyNumber mended × IsReplyNumber left
+IsReply (replies.Replaced from to slots) = IsReplyNumber from × IsReplyNumber to × IsReplyNumber slots
+IsReply (replies.Migrated from to slots) = IsReplyNumber from × IsReplyNumber to × IsReplyNumber slots
+IsReply (replies.Long name len) = IsName name × IsReplyNumber len
 IsReply (replies.Exists name) = IsName name
 IsReply (replies.Full group) = IsByte group
 IsReply (replies.Absent name) = IsName name
 IsReply (replies.Lost name piece fragment have need) =
-    IsName name × IsNumber piece × IsByte fragment × IsByte have × IsByte need
-IsReply (replies.Odd name wanted found) = IsName name × IsDigest wanted × IsDigest found
+    IsName name × IsReplyNumber piece × IsByte fragment × IsByte have × IsByte need
+IsReply (replies.Odd name wanted found) = IsName name × IsByteDigest wanted × IsByteDigest found
 IsReply (replies.Fault group column) = IsByte group × IsByte column
 IsReply (replies.LogFull group) = IsByte group
 IsReply replies.IndexLogFull = Unit {0}
-IsReply (replies.NoArchive number) = IsNumber number
-IsReply (replies.InUse number) = IsNumber number
-IsReply (replies.Renewed name pieces shards) = IsName name × IsNumber pieces × IsNumber shards
+IsReply (replies.NoArchive number) = IsReplyNumber number
+IsReply (replies.InUse number) = IsReplyNumber number
+IsReply (replies.Renewed name pieces shards) = IsName name × IsReplyNumber pieces × IsReplyNumber shards
 IsReply (replies.Often name) = IsName name
 
 -- the only value of which P holds

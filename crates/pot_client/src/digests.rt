@@ -7,7 +7,8 @@ ghost use Rattle.pot_client.specs.ReplyTexts.{ReadsDigest};
 use hex::{FromHex, encode_to_slice};
 use pot_bytes::Digest;
 
-/// The digest that these 64 hexadecimal digits of lower case write. None exactly where the word is anything else.
+/// The digest that these 64 hexadecimal digits of lower case write. None exactly where the word is
+/// anything else.
 pub fn read_digest(word: &[u8]) -> Option<Digest>
     ensures { ReadsDigest word.now result }
 {

@@ -3,7 +3,7 @@
 ghost use Rattle.std.specs.Prelude.{◌≡◌, ◌≤◌, [], ◌∷◌, length, decimal, codes};
 ghost use Rattle.hex.specs.Hex.{encode_lower};
 ghost use Rattle.pot_bytes.specs.Names.{IsName};
-ghost use Rattle.pot_client.specs.ReplyWords.{IsByte, IsNumber, IsOnly};
+ghost use Rattle.pot_client.specs.ReplyWords.{IsByte, IsReplyNumber, IsOnly};
 
 use pot_bytes::{Digest, Name};
 use pot_script::Words;
@@ -19,7 +19,7 @@ pub fn read_name(mut words: Words) -> Option<Name>
 
 /// The two words that are left, a name and a number.
 pub fn read_sized(mut words: Words) -> Option<(Name, u32)>
-    ensures { IsOnly (λ x. IsName x.0 × IsNumber x.1 × (words.entry ≡ x.0 ∷ decimal x.1 ∷ []))
+    ensures { IsOnly (λ x. IsName x.0 × IsReplyNumber x.1 × (words.entry ≡ x.0 ∷ decimal x.1 ∷ []))
         result }
 {
     let name = words.next_name()?;
@@ -30,7 +30,7 @@ pub fn read_sized(mut words: Words) -> Option<(Name, u32)>
 
 /// The three words that are left, a name and two numbers.
 pub fn read_split(mut words: Words) -> Option<(Name, u32, u32)>
-    ensures { IsOnly (λ x. IsName x.0 × IsNumber x.1 × IsNumber x.2
+    ensures { IsOnly (λ x. IsName x.0 × IsReplyNumber x.1 × IsReplyNumber x.2
         × (words.entry ≡ x.0 ∷ decimal x.1 ∷ decimal x.2 ∷ [])) result }
 {
     let name = words.next_name()?;
@@ -62,7 +62,7 @@ pub fn read_two(mut words: Words) -> Option<(u8, u8)>
 
 /// The three words that are left, numbers of which the first is at most `most`.
 pub fn read_three(mut words: Words, most: u32) -> Option<(u32, u32, u32)>
-    ensures { IsOnly (λ x. (x.0 ≤ most) × IsNumber x.1 × IsNumber x.2
+    ensures { IsOnly (λ x. (x.0 ≤ most) × IsReplyNumber x.1 × IsReplyNumber x.2
         × (words.entry ≡ decimal x.0 ∷ decimal x.1 ∷ decimal x.2 ∷ [])) result }
 {
     let first = words.next_number(most)?;

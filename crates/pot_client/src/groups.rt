@@ -1,13 +1,13 @@
 //! The line that says how a group stands.
 
-ghost use Rattle.pot_client.specs.ReplyTexts.{ReadsLine, TakesCount};
+ghost use Rattle.pot_client.specs.ReplyTexts.{ReadsReplyLine, TakesCount};
 ghost use Rattle.pot_client.specs.declared.kind.ReplyKind.TheVariants as kinds;
 
 use pot_script::{Reply, Words};
 
 /// `group G live L lost O broken B cursor STRIPE COLUMN`, behind its first word.
 pub fn read_group(mut words: Words) -> Option<Reply>
-    ensures { ReadsLine kinds.Group words.entry result }
+    ensures { ReadsReplyLine kinds.Group words.entry result }
 {
     let group = words.next_number(255)? as u8;
     let live = next_count(&mut words, b"live")?;

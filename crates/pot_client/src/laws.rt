@@ -15,8 +15,8 @@ pub fn one_reply()
         → ArePrinted bytes rs → ArePrinted bytes ss → rs ≡ ss }
 {}
 
-/// Parts that differ in their file or their number differ in their names. No part has the name of its file, nor
-/// that of any file whose name does not end as that of a part.
+/// Parts that differ in their file or their number differ in their names. No part has the name of
+/// its file, nor that of any file whose name does not end as that of a part.
 pub fn names_of_parts()
     ensures differ { (a b : List ℕ) (m n : ℕ) → m ≤ 9999 → n ≤ 9999
         → a ++ suffix m ≡ b ++ suffix n → (a ≡ b) × (m ≡ n) }

@@ -1,14 +1,15 @@
-//! What a program for people says to a session and hears of it: scripts that are written, replies that are
-//! read, and files that are cut into parts.
+//! What a program for people says to a session and hears of it: scripts that are written, replies
+//! that are read, and files that are cut into parts.
 //!
 //! It opens no file and holds no session.
 //!
-//! 1. What `write_script` writes is the script of the commands that it was given: a session reads them and no others.
-//! 2. The text of each reply is read as that reply, and no other bytes are read: `Replies::next`, `read_replies`. No
-//!    reply's text begins another's: `one_reply`.
+//! 1. What `write_script` writes is the script of the commands that it was given: a session reads
+//!    them and no others.
+//! 2. The text of each reply is read as that reply, and no other bytes are read: `Replies::next`,
+//!    `read_replies`. No reply's text begins another's: `one_reply`.
 //! 3. The parts of a file joined are the file (`parts_are_whole`).
-//! 4. Each part of each file has a name of its own, which no file has whose name does not end as that of a part:
-//!    `part_name`, `names_of_parts`.
+//! 4. Each part of each file has a name of its own, which no file has whose name does not end as
+//!    that of a part: `part_name`, `names_of_parts`.
 #![tactic(auto)]
 
 mod digests;

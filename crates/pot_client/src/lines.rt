@@ -1,7 +1,7 @@
 //! The first lines of replies, each by the words behind its first.
 
 ghost use Rattle.std.specs.Prelude.{◌≢◌};
-ghost use Rattle.pot_client.specs.ReplyTexts.{ReadsLine};
+ghost use Rattle.pot_client.specs.ReplyTexts.{ReadsReplyLine};
 ghost use Rattle.pot_client.specs.declared.kind.ReplyKind.TheVariants as kinds;
 
 use crate::fields::{read_name, read_one, read_sized, read_split, read_three, read_two};
@@ -10,12 +10,12 @@ use crate::kind::ReplyKind;
 use crate::rare::{read_logfull, read_lost, read_odd};
 use pot_script::{Reply, Words};
 
-/// The reply of a line of this kind that has these words behind its first. What stands behind the line of a
-/// file or of names is no part of it, so those are read elsewhere.
+/// The reply of a line of this kind that has these words behind its first. What stands behind the
+/// line of a file or of names is no part of it, so those are read elsewhere.
 pub fn read_line(kind: ReplyKind, words: Words) -> Option<Reply>
     requires file { kind ≢ kinds.File }
     requires names { kind ≢ kinds.Names }
-    ensures { ReadsLine kind words.entry result }
+    ensures { ReadsReplyLine kind words.entry result }
 {
     match kind {
         ReplyKind::File | ReplyKind::Names => unreachable!(),
@@ -41,7 +41,7 @@ pub fn read_line(kind: ReplyKind, words: Words) -> Option<Reply>
 }
 
 fn read_stored(words: Words) -> Option<Reply>
-    ensures { ReadsLine kinds.Stored words.entry result }
+    ensures { ReadsReplyLine kinds.Stored words.entry result }
 {
     let (name, pieces, shards) = read_split(words)?;
     Some(Reply::Stored {
@@ -52,7 +52,7 @@ fn read_stored(words: Words) -> Option<Reply>
 }
 
 fn read_scrubbed(words: Words) -> Option<Reply>
-    ensures { ReadsLine kinds.Scrubbed words.entry result }
+    ensures { ReadsReplyLine kinds.Scrubbed words.entry result }
 {
     let (group, seen, gone) = read_three(words, 255)?;
     Some(Reply::Scrubbed {
@@ -63,7 +63,7 @@ fn read_scrubbed(words: Words) -> Option<Reply>
 }
 
 fn read_repaired(words: Words) -> Option<Reply>
-    ensures { ReadsLine kinds.Repaired words.entry result }
+    ensures { ReadsReplyLine kinds.Repaired words.entry result }
 {
     let (group, mended, left) = read_three(words, 255)?;
     Some(Reply::Repaired {
@@ -74,21 +74,21 @@ fn read_repaired(words: Words) -> Option<Reply>
 }
 
 fn read_replaced(words: Words) -> Option<Reply>
-    ensures { ReadsLine kinds.Replaced words.entry result }
+    ensures { ReadsReplyLine kinds.Replaced words.entry result }
 {
     let (from, to, slots) = read_three(words, u32::MAX)?;
     Some(Reply::Replaced { from, to, slots })
 }
 
 fn read_migrated(words: Words) -> Option<Reply>
-    ensures { ReadsLine kinds.Migrated words.entry result }
+    ensures { ReadsReplyLine kinds.Migrated words.entry result }
 {
     let (from, to, slots) = read_three(words, u32::MAX)?;
     Some(Reply::Migrated { from, to, slots })
 }
 
 fn read_long(words: Words) -> Option<Reply>
-    ensures { ReadsLine kinds.Long words.entry result }
+    ensures { ReadsReplyLine kinds.Long words.entry result }
 {
     let (name, length) = read_sized(words)?;
     Some(Reply::Long {
@@ -98,49 +98,49 @@ fn read_long(words: Words) -> Option<Reply>
 }
 
 fn read_exists(words: Words) -> Option<Reply>
-    ensures { ReadsLine kinds.Exists words.entry result }
+    ensures { ReadsReplyLine kinds.Exists words.entry result }
 {
     let name = read_name(words)?;
     Some(Reply::Exists { name })
 }
 
 fn read_full(words: Words) -> Option<Reply>
-    ensures { ReadsLine kinds.Full words.entry result }
+    ensures { ReadsReplyLine kinds.Full words.entry result }
 {
     let group = read_one(words, 255)?;
     Some(Reply::Full { group: group as u8 })
 }
 
 fn read_absent(words: Words) -> Option<Reply>
-    ensures { ReadsLine kinds.Absent words.entry result }
+    ensures { ReadsReplyLine kinds.Absent words.entry result }
 {
     let name = read_name(words)?;
     Some(Reply::Absent { name })
 }
 
 fn read_fault(words: Words) -> Option<Reply>
-    ensures { ReadsLine kinds.Fault words.entry result }
+    ensures { ReadsReplyLine kinds.Fault words.entry result }
 {
     let (group, column) = read_two(words)?;
     Some(Reply::Fault { group, column })
 }
 
 fn read_noarchive(words: Words) -> Option<Reply>
-    ensures { ReadsLine kinds.NoArchive words.entry result }
+    ensures { ReadsReplyLine kinds.NoArchive words.entry result }
 {
     let number = read_one(words, u32::MAX)?;
     Some(Reply::NoArchive { number })
 }
 
 fn read_inuse(words: Words) -> Option<Reply>
-    ensures { ReadsLine kinds.InUse words.entry result }
+    ensures { ReadsReplyLine kinds.InUse words.entry result }
 {
     let number = read_one(words, u32::MAX)?;
     Some(Reply::InUse { number })
 }
 
 fn read_renewed(words: Words) -> Option<Reply>
-    ensures { ReadsLine kinds.Renewed words.entry result }
+    ensures { ReadsReplyLine kinds.Renewed words.entry result }
 {
     let (name, pieces, shards) = read_split(words)?;
     Some(Reply::Renewed {
@@ -151,7 +151,7 @@ fn read_renewed(words: Words) -> Option<Reply>
 }
 
 fn read_often(words: Words) -> Option<Reply>
-    ensures { ReadsLine kinds.Often words.entry result }
+    ensures { ReadsReplyLine kinds.Often words.entry result }
 {
     let name = read_name(words)?;
     Some(Reply::Often { name })

@@ -13,8 +13,8 @@ pub const LAST_PART: u32 = 9_999;
 /// How many bytes the name of a part has behind that of its file.
 const SUFFIX: usize = 6;
 
-/// The name of the part of this number of a file of this name. None exactly where that is too long, or the
-/// number is.
+/// The name of the part of this number of a file of this name. None exactly where that is too long,
+/// or the number is.
 pub fn part_name(name: &Name, number: u32) -> Option<Name>
     ensures named { NamesPart name.now number result }
     ensures found { IsSome result ↔ ((number ≤ 9999) × (length name.now ≤ 58)) }
@@ -62,8 +62,8 @@ fn digit(number: u32) -> u8
     b'0' + (number % 10) as u8
 }
 
-/// The name of the file and the number of the part of which this is the name. None exactly where it is the name
-/// of no part of a file.
+/// The name of the file and the number of the part of which this is the name. None exactly where it
+/// is the name of no part of a file.
 pub fn read_part_name(name: &Name) -> Option<(Name, u32)>
     ensures { TellsPart name.now result }
 {

@@ -1,6 +1,6 @@
 //! The lines with fields as no other line has them.
 
-ghost use Rattle.pot_client.specs.ReplyTexts.{ReadsLine};
+ghost use Rattle.pot_client.specs.ReplyTexts.{ReadsReplyLine};
 ghost use Rattle.pot_client.specs.declared.kind.ReplyKind.TheVariants as kinds;
 
 use crate::digests::read_digest;
@@ -8,7 +8,7 @@ use pot_script::{Reply, Words, read_number};
 
 /// `lost NAME PIECE FRAGMENT HAVE NEED`, behind its first word.
 pub fn read_lost(mut words: Words) -> Option<Reply>
-    ensures { ReadsLine kinds.Lost words.entry result }
+    ensures { ReadsReplyLine kinds.Lost words.entry result }
 {
     let name = words.next_name()?;
     let piece = words.next_number(u32::MAX)?;
@@ -27,7 +27,7 @@ pub fn read_lost(mut words: Words) -> Option<Reply>
 
 /// `odd NAME WANTED FOUND`, behind its first word.
 pub fn read_odd(mut words: Words) -> Option<Reply>
-    ensures { ReadsLine kinds.Odd words.entry result }
+    ensures { ReadsReplyLine kinds.Odd words.entry result }
 {
     let name = words.next_name()?;
     let wanted = read_digest(words.next()?)?;
@@ -42,7 +42,7 @@ pub fn read_odd(mut words: Words) -> Option<Reply>
 
 /// `logfull G` or `logfull index`, behind its first word.
 pub fn read_logfull(mut words: Words) -> Option<Reply>
-    ensures { ReadsLine kinds.LogFull words.entry result }
+    ensures { ReadsReplyLine kinds.LogFull words.entry result }
 {
     let word = words.next()?;
     words.end()?;

@@ -1,7 +1,8 @@
 //! The replies of a session, read from what it wrote.
 
 ghost use Rattle.std.specs.Prelude.{◌≡◌, IfOk, List, MatchOption, OnErr};
-ghost use Rattle.pot_client.specs.ReplyTexts.{ArePrinted, Begins, EndsReply, NoReplyAt, ReadsAll};
+ghost use Rattle.pot_client.specs.ReplyTexts.{ArePrinted, BeginsReply, EndsReply, NoReplyAt};
+ghost use Rattle.pot_client.specs.ReplyTexts.{ReadsAll};
 ghost use Rattle.pot_client.specs.ReplyTexts.{ReadsBack, TakesListed, TakesNames, TakesNext};
 ghost use Rattle.pot_client.specs.declared.kind.ReplyKind.TheVariants as kinds;
 ghost use Rattle.pot_script.specs.declared.reply.Reply.{Reply};
@@ -15,8 +16,8 @@ use pot_script::{NameList, Reply, Words, cut_after, cut_at};
 use std::alloc::{AllocError, Global};
 use std::marker::Model;
 
-/// The replies that a session wrote. None exactly where these bytes are not the texts of replies, one after
-/// another.
+/// The replies that a session wrote. None exactly where these bytes are not the texts of replies,
+/// one after another.
 ///
 /// # Errors
 /// Want of memory alone.
@@ -66,8 +67,8 @@ impl<'a> Replies<'a> {
         self.left
     }
 
-    /// The next reply, which is taken off. None exactly where the text of no reply is next. Where none is
-    /// answered, nothing is taken.
+    /// The next reply, which is taken off. None exactly where the text of no reply is next. Where
+    /// none is answered, nothing is taken.
     ///
     /// # Errors
     /// Want of memory alone.
@@ -86,7 +87,8 @@ impl<'a> Replies<'a> {
         Ok(Some(reply))
     }
 
-    // The reply of a line of this kind that has these words behind its first, where the line was taken off.
+    // The reply of a line of this kind that has these words behind its first, where the line was
+    // taken off.
     fn finish(
         &mut self,
         alloc: Global,
@@ -165,7 +167,7 @@ impl<'a> Replies<'a> {
 
 // The kind of the first line, the words behind its first, and what stands behind the line.
 fn first_line(bytes: &[u8]) -> Option<(ReplyKind, Words<'_>, &[u8])>
-    ensures { MatchOption result (NoReplyAt bytes.now) (λ x. Begins bytes.now x.0 x.1 x.2.now) }
+    ensures { MatchOption result (NoReplyAt bytes.now) (λ x. BeginsReply bytes.now x.0 x.1 x.2.now) }
 {
     let (line, rest) = cut_at(bytes, b'\n')?;
     let mut words = Words::of(line);

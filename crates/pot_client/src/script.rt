@@ -21,8 +21,8 @@ pub enum Word<'a> {
     Number(u64),
 }
 
-/// The script of these commands, with `quit` behind them. Where each of them may stand where it does and the
-/// script is not too long, a session reads it as just these commands.
+/// The script of these commands, with `quit` behind them. Where each of them may stand where it
+/// does and the script is not too long, a session reads it as just these commands.
 pub fn write_script(alloc: Global, commands: &[Command]) -> Result<Vec<u8>, NoMemory>
     ensures text { IfOk result (λ script. script.items ≡ script_text (commands.now ++ Quit ∷ [])) }
     ensures reads { IfOk result (λ script. (rack : Rack) → AreSteps rack None commands.now

@@ -20,7 +20,7 @@ use Rattle.pot_store.specs.Renewals.{RenewsFrom}
 use Rattle.pot_store.specs.Stores.{DrawsFrom, drawn_blocks}
 use Rattle.pot_shared.proofs.WorkLemmas.{row_stays, index_idle}
 use Rattle.pot_script.specs.declared.reply.Reply.{Reply}
-use Rattle.pot_commands.specs.Rows.{AreReplies, IsSessionSetting, IsIdle, IsPlain, IsSingle, IsWorked}
+use Rattle.pot_commands.specs.Rows.{AreReplies, IsSessionSetting, IsIdleCommand, IsPlain, IsSingle, IsWorked}
 use Rattle.pot_commands.specs.Taking.{asks}
 
 -- passes that did nothing worked for any job
@@ -31,7 +31,7 @@ stayed_worked rack names turn job row i ready index_ready = record {
   index = row_stays (index.is_of job) i (index_idle rack names turn i index_ready);
 }
 
-pub idle_silent : (s : Setting) (job : ℕ) (c : Command) (w : Section) → IsSilent (mine job w) → IsIdle s job c w
+pub idle_silent : (s : Setting) (job : ℕ) (c : Command) (w : Section) → IsSilent (mine job w) → IsIdleCommand s job c w
 idle_silent s job (commands.Fetch name) w h = inl h
 idle_silent s job (commands.Renew name geometry) w h = inl (inl h)
 idle_silent s job _ w h = h

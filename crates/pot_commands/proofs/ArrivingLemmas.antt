@@ -46,7 +46,7 @@ use Rattle.pot_group.specs.Calls.{ComesBy}
 use Rattle.pot_shared.specs.Ready.{AreReady, GroupPass, GroupPasses}
 use Rattle.pot_shared.specs.Works.{Known, known, of_job, gained, JobWroteOnly, JobOnlyWriter, IsSettingOf, section_of}
 use Rattle.pot_shared.proofs.WorkLemmas.{row_stays, index_idle, group_work, group_own, group_else, work_more, alone_parts, own_more, all_none, all_one}
-use Rattle.pot_mend.specs.Moves.{IsAsked, seen_in}
+use Rattle.pot_mend.specs.Moves.{IsOnlyAsked, seen_in}
 use Rattle.pot_mend.proofs.HadLemmas.{IsUsedIn, brought_here, brought_named, had_used, named_held, same_width}
 use Rattle.pot_shared.specs.Going.{AllOnlyWriters}
 use Rattle.pot_shared.specs.Hands.{times}
@@ -145,7 +145,7 @@ use_there None t P is h = absurd h
 use_there (Some y) t P is h = subst P (sym is) h
 
 module _ {rack : Rack} {names turn : List TurnName} (job : ℕ) {row0 row1 : GroupPasses} {i i1 : IndexPasses} (ready : AreReady rack names row0) (ready1 : AreReady rack names row1)
-    (iready : IsIndexReady rack names turn i) (same : i1 ≡ i) (asked : IsAsked row0 row1) where
+    (iready : IsIndexReady rack names turn i) (same : i1 ≡ i) (asked : IsOnlyAsked row0 row1) where
   abbrev k0 : Known
   k0 = known row0 i
 

@@ -8,7 +8,7 @@ use Rattle.pot_turn.specs.declared.view.View.{View}
 use Rattle.pot_turn.specs.Logs.{StartsWith}
 use Rattle.pot_turn.proofs.LogLemmas.{get_back}
 use Rattle.pot_worked.specs.WroteOnlyFor.{added, WroteOnlyFor, OnlyWriterOf}
-use Rattle.pot_worked.specs.Batches.{Carried, Apart, IsIn, AreCarried, TellsJobs}
+use Rattle.pot_worked.specs.Batches.{Carried, Apart, IsInBatch, AreCarried, TellsJobs}
 use Rattle.pot_worked.specs.OnlyWriter.{Extends, OnlyWriter}
 use Rattle.pot_worked.proofs.BatchLemmas.{alone_in_batch, owned_in_batch}
 use Rattle.pot_worked.proofs.OnlyWriterLemmas.{batch_went}
@@ -52,13 +52,13 @@ module _ {E O : Type 0} (of : ℕ → E → Bool) (rows : Line → CarriedRow E 
         carried at (suc from) cs all.2,
       )
 
-  is_in : (at : ℕ) (c : Line) (cs : List Line) → IsAmongLines c cs → IsIn (carried_at at (rows c)) (map (carried_at at) (map rows cs))
+  is_in : (at : ℕ) (c : Line) (cs : List Line) → IsAmongLines c cs → IsInBatch (carried_at at (rows c)) (map (carried_at at) (map rows cs))
   is_in at c [] among = absurd among
   is_in at c (d ∷ cs) (inl same) = inl (ap (λ (b : Line). carried_at at (rows b)) same)
   is_in at c (d ∷ cs) (inr later) = inr (is_in at c cs later)
 
   -- the job that one of the rows at a place is of
-  line_in : (at : ℕ) (ds : List Line) (c : Carried E O) → IsIn c (map (carried_at at) (map rows ds)) → (d : Line) × IsAmongLines d ds × (d.job ≡ c.job)
+  line_in : (at : ℕ) (ds : List Line) (c : Carried E O) → IsInBatch c (map (carried_at at) (map rows ds)) → (d : Line) × IsAmongLines d ds × (d.job ≡ c.job)
   line_in at [] c there = absurd there
   line_in at (d ∷ ds) c (inl same) = (d, inl refl, sym (numbered d) ∙ ap (λ (b : Carried E O). b.job) same)
   line_in at (d ∷ ds) c (inr later) = let rest = line_in at ds c later in (rest.0, inr rest.1, rest.2)

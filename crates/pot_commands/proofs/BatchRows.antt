@@ -19,12 +19,12 @@ use Rattle.pot_script.specs.declared.reply.Reply.{Reply}
 use Rattle.pot_shared.specs.declared.member.Logged.{Logged}
 use Rattle.pot_shared.specs.Members.{entries_of}
 use Rattle.pot_replies.specs.Settings.{Setting}
-use Rattle.pot_replies.specs.Sections.{Section, MovesThenRest, Follows, IsAmong, IsOfJobs, work_of}
+use Rattle.pot_replies.specs.Sections.{Section, MovesThenRest, FollowsSection, IsAmong, IsOfJobs, work_of}
 use Rattle.pot_replies.specs.Sessions.{Rows}
 use Rattle.pot_shared.specs.Works.{gained, Known, section_of}
 use Rattle.pot_commands.specs.declared.beginning.Task.{Task}
 use Rattle.pot_commands.specs.declared.beginning.Task.TheVariants as task
-use Rattle.pot_commands.specs.Rows.{IsSessionSetting, IsMigrateReply, AreReplies, IsIdle, Row}
+use Rattle.pot_commands.specs.Rows.{IsSessionSetting, IsMigrateReply, AreReplies, IsIdleCommand, Row}
 use Rattle.pot_commands.specs.Begun.{HasTask, IsBegun, HaveBegun}
 use Rattle.pot_shared.specs.Going.{AllOnlyWriters}
 use Rattle.pot_commands.specs.Taking.{asks}
@@ -132,7 +132,7 @@ still_row s groups job (commands.Scrub group) r w h q none row = (none, row)
 still_row s groups job (commands.Repair group) r w h q none row = (none, row)
 still_row s groups job _ r w h q none row = absurd q
 
-still_left : (s : Setting) (groups job : ℕ) (c : Command) (w : Section) (h : MovesThenRest w) → IsStill groups c → ((g : ℕ) → own job (h.begun g) ≡ []) → IsIdle s job c (work_of w h) → IsLineLeft s job c w h
+still_left : (s : Setting) (groups job : ℕ) (c : Command) (w : Section) (h : MovesThenRest w) → IsStill groups c → ((g : ℕ) → own job (h.begun g) ≡ []) → IsIdleCommand s job c (work_of w h) → IsLineLeft s job c w h
 still_left s groups job (commands.Store name file) w h q none idle = inr (none, idle)
 still_left s groups job (commands.Fetch name) w h q none idle = inr (none, idle)
 still_left s groups job (commands.Renew name geometry) w h q none idle = inr (none, idle)
@@ -208,7 +208,7 @@ module _ (rack : Rack) (s : Setting) (w : Section) (h : MovesThenRest w) (brough
 -- THE MOVES THAT BEGAN, AND THEN THE JOBS
 
 module _ (rack : Rack) (seed : List ℕ) (session : ℕ) (v x : Known) (from : ℕ) (cs : List Line) (jobs : AreLines v from cs) (joins : KnownJoins v cs x) (say : AllSay rack seed session cs) (sole : AllOnlyWriters v x)
-    (s : Setting) (is : IsSessionSetting s rack seed session v) (moves whole : Section) (begun : HaveBegun s from (lines_of cs) (tasks_of cs) moves) (follows : Follows moves (section_of v x) whole) where
+    (s : Setting) (is : IsSessionSetting s rack seed session v) (moves whole : Section) (begun : HaveBegun s from (lines_of cs) (tasks_of cs) moves) (follows : FollowsSection moves (section_of v x) whole) where
   all : AnswersAll rack s cs (section_of v x)
   all = batch_answers rack seed session v x from cs jobs joins sole s is say
 

@@ -16,10 +16,10 @@ use Rattle.pot_script.specs.declared.reply.Reply.TheVariants as replies
 use Rattle.pot_replies.specs.Settings.{Setting}
 use Rattle.pot_replies.specs.Jobs.{is_copied, is_move_of, EachIs}
 use Rattle.pot_replies.specs.Sections.{Section, JobEntries, mine, Widens, IsOnlyIn, IsSilent}
-use Rattle.pot_replies.specs.Stores.{Placed, IsLong, IsTaken, IsStored, IsStoreFault, IsFull, IsStoreLogFull, Stops}
+use Rattle.pot_replies.specs.Stores.{Placed, IsLong, IsStoreRefused, IsStored, IsStoreFault, IsStoreFull, IsStoreLogFull, StopsStore}
 use Rattle.pot_replies.specs.Renewals.{AllPut}
 use Rattle.pot_replies.specs.Listings.{IsIndexFull}
-use Rattle.pot_replies.specs.Fetches.{IsAbsent}
+use Rattle.pot_replies.specs.Fetches.{IsFetchAbsent}
 use Rattle.pot_replies.proofs.Standing.{same_own, mine_stays, moment_stands, index_moment_stands, found_stands, mends_stand, entries_stand}
 use Rattle.pot_replies.proofs.FetchStanding.{file_stands, odd_stands, lost_stands, fetch_fault_stands, fetch_log_full_stands}
 use Rattle.pot_replies.proofs.RenewStanding.{renewed_stands, often_stands, often_late_stands, renew_index_full_stands, renew_fault_stands, renew_full_stands, renew_log_full_stands}
@@ -30,7 +30,7 @@ use Rattle.pot_mend.specs.declared.fault.MendFault.{MendFault}
 use Rattle.pot_mend.specs.declared.fault.MendFault.TheVariants as fault
 use Rattle.pot_commands.specs.declared.beginning.Task.TheVariants as task
 use Rattle.pot_commands.specs.Jobs.{SaysStill}
-use Rattle.pot_commands.specs.Rows.{IsStoreReply, IsFetchReply, IsRenewReply, IsScrubReply, IsRepairReply, AreReplies, IsUnrenewed, IsIdle}
+use Rattle.pot_commands.specs.Rows.{IsStoreReply, IsFetchReply, IsRenewReply, IsScrubReply, IsRepairReply, AreReplies, IsUnrenewed, IsIdleCommand}
 use Rattle.pot_commands.specs.Steps.{IsStill}
 use Rattle.pot_commands.specs.Batches.{AnswersWiden}
 
@@ -41,10 +41,10 @@ module _ (s : Setting) (job : ℕ) (w w' : Section) (wide : Widens job w w') whe
   silent_stands : IsSilent (mine job w) → IsSilent (mine job w')
   silent_stands is = subst IsSilent same is
 
-  full_stands : (name file : List ℕ) (g : ℕ) → IsFull s job name file g w → IsFull s job name file g w'
+  full_stands : (name file : List ℕ) (g : ℕ) → IsStoreFull s job name file g w → IsStoreFull s job name file g w'
   full_stands name file g is = record {
     passed = is.passed;
-    stops = subst (λ (m : JobEntries). Stops s job name file g (skips job is.passed) m) same is.stops;
+    stops = subst (λ (m : JobEntries). StopsStore s job name file g (skips job is.passed) m) same is.stops;
     log = is.log;
     moment = moment_stands job w w' wide g is.log is.moment;
     behind = is.behind;
@@ -56,7 +56,7 @@ module _ (s : Setting) (job : ℕ) (w w' : Section) (wide : Widens job w w') whe
     passed = is.passed;
     stripe = is.stripe;
     gone = is.gone;
-    stops = subst (λ (m : JobEntries). Stops s job name file g (skips job is.passed ++ gone_entries job is.stripe is.gone) m) same is.stops;
+    stops = subst (λ (m : JobEntries). StopsStore s job name file g (skips job is.passed ++ gone_entries job is.stripe is.gone) m) same is.stops;
     log = is.log;
     moment = moment_stands job w w' wide g is.log is.moment;
     full = is.full;
@@ -74,7 +74,7 @@ module _ (s : Setting) (job : ℕ) (w w' : Section) (wide : Widens job w w') whe
   store_stands : (name file : List ℕ) (r : Reply) → IsStoreReply s job name file r w → IsStoreReply s job name file r w'
   store_stands name file (replies.Stored of pieces shards) row = (row.0, subst (IsStored s job name file pieces shards) same row.1)
   store_stands name file (replies.Long of size) row = (row.0, row.1, subst (IsLong _) same row.2)
-  store_stands name file (replies.Exists of) row = (row.0, subst (IsTaken job name _) same row.1)
+  store_stands name file (replies.Exists of) row = (row.0, subst (IsStoreRefused job name _) same row.1)
   store_stands name file (replies.Fault group column) row = subst (IsStoreFault s job name file group column) same row
   store_stands name file (replies.Full group) row = full_stands name file group row
   store_stands name file (replies.LogFull group) row = log_full_stands name file group row
@@ -83,7 +83,7 @@ module _ (s : Setting) (job : ℕ) (w w' : Section) (wide : Widens job w w') whe
 
   fetch_stands : (name : List ℕ) (r : Reply) → IsFetchReply s job name r w → IsFetchReply s job name r w'
   fetch_stands name (replies.File of bytes) row = (row.0, file_stands s job name _ w w' wide row.1)
-  fetch_stands name (replies.Absent of) row = (row.0, subst (IsAbsent job name) same row.1)
+  fetch_stands name (replies.Absent of) row = (row.0, subst (IsFetchAbsent job name) same row.1)
   fetch_stands name (replies.Lost of piece fragment have need) row = (row.0, (row.1.0, row.1.1, lost_stands s job name piece row.1.0 have need w w' wide row.1.2))
   fetch_stands name (replies.Odd of wanted got) row = (row.0, odd_stands _ s job name wanted got w w' wide row.1)
   fetch_stands name (replies.Fault group column) row = fetch_fault_stands s job name group column w w' wide row
@@ -95,7 +95,7 @@ module _ (s : Setting) (job : ℕ) (w w' : Section) (wide : Widens job w w') whe
   renew_stands name geometry (replies.Renewed of pieces shards) row = (row.0, renewed_stands s job name geometry pieces shards w w' wide row.1)
   renew_stands name geometry (replies.Often of) (named, inl row) = (named, inl (often_stands s job name w w' wide row))
   renew_stands name geometry (replies.Often of) (named, inr row) = (named, inr (often_late_stands s job name geometry w w' wide row))
-  renew_stands name geometry (replies.Absent of) row = (row.0, subst (IsAbsent job name) same row.1)
+  renew_stands name geometry (replies.Absent of) row = (row.0, subst (IsFetchAbsent job name) same row.1)
   renew_stands name geometry (replies.Lost of piece fragment have need) row = (row.0, (row.1.0, row.1.1, lost_stands s job name piece row.1.0 have need w w' wide row.1.2))
   renew_stands name geometry (replies.Odd of wanted got) row = (row.0, odd_stands _ s job name wanted got w w' wide row.1)
   renew_stands name geometry (replies.Fault group column) (inl row) = inl (fetch_fault_stands s job name group column w w' wide row)
@@ -158,7 +158,7 @@ module _ (s : Setting) (job : ℕ) (w w' : Section) (wide : Widens job w w') whe
   unrenewed_stands name geometry (inl is) = inl (unfinished_stands name is)
   unrenewed_stands name geometry (inr (placed, is)) = inr (placed, put_stands name geometry placed is)
 
-  idle_stands : (groups : ℕ) (c : Command) → IsStill groups c → IsIdle s job c w → IsIdle s job c w'
+  idle_stands : (groups : ℕ) (c : Command) → IsStill groups c → IsIdleCommand s job c w → IsIdleCommand s job c w'
   idle_stands groups (commands.Store name file) batched is = silent_stands is
   idle_stands groups (commands.Fetch name) batched is = unfinished_stands name is
   idle_stands groups (commands.Renew name geometry) batched is = unrenewed_stands name geometry is

@@ -32,7 +32,7 @@ use Rattle.pot_commands.specs.declared.beginning.Task.{Task}
 use Rattle.pot_commands.specs.Begun.{HasTask, HaveTasks, LineBegins, HaveBegun, AreMovesBegun}
 use Rattle.pot_shared.specs.Going.{AllOnlyWriters, AllStay, AllExtend}
 use Rattle.pot_shared.specs.Hands.{times}
-use Rattle.pot_commands.specs.Steps.{IsBatched, IsStill, StepHalts, StepLeaves, StepStops}
+use Rattle.pot_commands.specs.Steps.{AsksRoom, IsBatched, IsStill, StepHalts, StepLeaves, StepStops}
 use Rattle.pot_commands.specs.Taking.{Took, asks}
 use Rattle.pot_outside.specs.Rooms.{RoomState}
 use Rattle.pot_commands.proofs.AnswerLemmas.{stayed_worked}
@@ -190,17 +190,18 @@ module _ (rack : Rack) (told : Type 0) (from : ℕ) (lines : List Command) (n : 
 -- THE STEP
 
 -- where only moves have begun, the room failed at the step, or the step was left
-pub moves_halt : (rack : Rack) (seed : List ℕ) (session from : ℕ) (lines : List Command) (tasks : List Task) (old new : Known) → AreMovesBegun rack from lines tasks old new
+pub moves_halt : (rack : Rack) (seed : List ℕ) (session from : ℕ) (lines : List Command) (tasks : List Task) (old new : Known) → AsksRoom (Together lines) → AreMovesBegun rack from lines tasks old new
     → StepHalts rack seed session from (Together lines) old new
-moves_halt rack seed session from lines tasks old new moves sole s is = begun_halted s from lines tasks (section_of old new) (moves.begun sole s is.setting) moves.few
+moves_halt rack seed session from lines tasks old new asked moves sole s is =
+    let halted = begun_halted s from lines tasks (section_of old new) (moves.begun sole s is.setting) moves.few in (halted.0, (asked, halted.1))
 
 pub moves_leave : (rack : Rack) (seed : List ℕ) (session from : ℕ) (lines : List Command) (tasks : List Task) (old new : Known) → AreMovesBegun rack from lines tasks old new
     → StepLeaves rack seed session from (Together lines) old new
 moves_leave rack seed session from lines tasks old new moves sole s is =
-    let halted = moves_halt rack seed session from lines tasks old new moves sole s is in
+    let halted = begun_halted s from lines tasks (section_of old new) (moves.begun sole s is.setting) moves.few in
     (halted.0, (halted.1.0, halted.1.1))
 
-pub moves_stop : (rack : Rack) (seed : List ℕ) (session from : ℕ) (lines : List Command) (tasks : List Task) (old new : Known) (e : Unanswered) → AreMovesBegun rack from lines tasks old new
+pub moves_stop : (rack : Rack) (seed : List ℕ) (session from : ℕ) (lines : List Command) (tasks : List Task) (old new : Known) (e : Unanswered) → (e ≡ unanswered.RoomFailed → AsksRoom (Together lines)) → AreMovesBegun rack from lines tasks old new
     → StepStops rack seed session from (Together lines) old new e
-moves_stop rack seed session from lines tasks old new unanswered.RoomFailed moves = moves_halt rack seed session from lines tasks old new moves
-moves_stop rack seed session from lines tasks old new unanswered.NoMemory moves = moves_leave rack seed session from lines tasks old new moves
+moves_stop rack seed session from lines tasks old new unanswered.RoomFailed asked moves = moves_halt rack seed session from lines tasks old new (asked refl) moves
+moves_stop rack seed session from lines tasks old new unanswered.NoMemory asked moves = moves_leave rack seed session from lines tasks old new moves

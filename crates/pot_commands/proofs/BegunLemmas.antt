@@ -22,7 +22,7 @@ use Rattle.pot_script.specs.declared.command.Command.{Command}
 use Rattle.pot_script.specs.declared.command.Command.TheVariants as commands
 use Rattle.pot_replies.specs.Jobs.{is_move_begin, EachIs}
 use Rattle.pot_replies.specs.Settings.{Setting}
-use Rattle.pot_replies.specs.Sections.{Section, MovesThenRest, Follows, JobsAscend, IsEmpty, IsOfJobs, IsSilent, checked, mine, work_of}
+use Rattle.pot_replies.specs.Sections.{Section, MovesThenRest, FollowsSection, JobsAscend, IsSectionEmpty, IsOfJobs, IsSilent, checked, mine, work_of}
 use Rattle.pot_replies.specs.Moves.{MayBegin, MayGoOn, moving_at}
 use Rattle.pot_commands.specs.declared.beginning.Task.{Task}
 use Rattle.pot_commands.specs.declared.beginning.Task.TheVariants as task
@@ -91,7 +91,7 @@ ascend_last (x ∷ y ∷ xs) e ascend low = (ascend.0, ascend_last (y ∷ xs) e 
 
 -- NOTHING MORE WAS ADDED
 
-same_section : (w one whole : Section) → Follows w one whole → IsEmpty one → whole ≡ w
+same_section : (w one whole : Section) → FollowsSection w one whole → IsSectionEmpty one → whole ≡ w
 same_section w one whole follows none =
     let befores : whole.before ≡ w.before = fun_ext (λ g. sym (follows.begins g)) in
     let addeds : whole.added ≡ w.added = fun_ext (λ g. follows.is_added g ∙ (ap (λ l. w.added g ++ l) (none.0 g) ∙ append-nil (w.added g))) in
@@ -100,7 +100,7 @@ same_section w one whole follows none =
     λ i. record { before = befores i; added = addeds i; index_before = index_befores i; index_added = index_addeds i }
 
 -- before the first line
-pub none_begun : (s : Setting) (from : ℕ) (lines : List Command) (w : Section) → IsEmpty w → HaveBegun s from lines [] w
+pub none_begun : (s : Setting) (from : ℕ) (lines : List Command) (w : Section) → IsSectionEmpty w → HaveBegun s from lines [] w
 none_begun s from lines w none = record {
   none_index = none.1;
   its = record { groups = λ g x y e at. absurd (no_entry (w.added g) x y e (none.0 g) at); index = λ x y e at. absurd (no_entry w.index_added x y e none.1 at) };
@@ -109,12 +109,12 @@ none_begun s from lines w none = record {
   each = λ i c t at there. absurd (cc there);
 }
 
-pub same_begun : (s : Setting) (from : ℕ) (lines : List Command) (tasks : List Task) (w one whole : Section) → HaveBegun s from lines tasks w → Follows w one whole → IsEmpty one → HaveBegun s from lines tasks whole
+pub same_begun : (s : Setting) (from : ℕ) (lines : List Command) (tasks : List Task) (w one whole : Section) → HaveBegun s from lines tasks w → FollowsSection w one whole → IsSectionEmpty one → HaveBegun s from lines tasks whole
 same_begun s from lines tasks w one whole sofar follows none = subst (λ (u : Section). HaveBegun s from lines tasks u) (sym (same_section w one whole follows none)) sofar
 
 -- ONE LINE MORE
 
-module _ (s : Setting) (from : ℕ) (lines : List Command) (tasks : List Task) (w one whole : Section) (sofar : HaveBegun s from lines tasks w) (follows : Follows w one whole)
+module _ (s : Setting) (from : ℕ) (lines : List Command) (tasks : List Task) (w one whole : Section) (sofar : HaveBegun s from lines tasks w) (follows : FollowsSection w one whole)
     (its : IsOfJobs (from + length tasks) 1 one) where
   abbrev job : ℕ
   job = from + length tasks
@@ -321,7 +321,7 @@ module _ (s : Setting) (from : ℕ) (lines : List Command) (tasks : List Task) (
     lines_left (suc n) cs (λ i d there. subst (λ j. IsLineLeft s j d w begun_only) (let e : n + suc i ≡ suc n + i = omega arith in e) (each (suc i) d there)),
   )
 
-  pub begun_halted : length tasks ≤ length lines → IsOfJobs from (length lines) w × ((h : MovesThenRest w) × AreLinesLeft s from lines w h × IsEmpty (work_of w h))
+  pub begun_halted : length tasks ≤ length lines → IsOfJobs from (length lines) w × ((h : MovesThenRest w) × AreLinesLeft s from lines w h × IsSectionEmpty (work_of w h))
   begun_halted few = (
     record {
       groups = λ g x y e at. let a = (begun.its.groups g x y e at).0 in let b = (begun.its.groups g x y e at).1 in (a, omega (arith, b, few));

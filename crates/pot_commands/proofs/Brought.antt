@@ -17,7 +17,7 @@ use Rattle.pot_shared.specs.declared.catalog.CatalogOrigin.{CatalogOrigin}
 use Rattle.pot_shared.specs.Catalogs.{records_in}
 use Rattle.pot_shared.specs.Works.{gained, Known, JobWroteOnly, JobOnlyWriter, IsSettingOf, section_of}
 use Rattle.pot_store.specs.Drawing.{blocks_from}
-use Rattle.pot_commands.specs.Rows.{HasFilled, IsSessionSetting, AreReplies, IsIdle}
+use Rattle.pot_commands.specs.Rows.{HasFilled, IsSessionSetting, AreReplies, IsIdleCommand}
 use Rattle.pot_shared.specs.Going.{AllOnlyWriters}
 use Rattle.pot_commands.specs.Taking.{asks}
 use Rattle.pot_commands.proofs.NoMoves.{brings, no_arrivals, no_moves, idle_moves}
@@ -66,6 +66,6 @@ module _ (rack : Rack) (seed : List ℕ) (session job : ℕ) (c : Command) (none
       (ap (filter brings) (sym (own_all job (gained old.groups new.groups g) ((its_jobs job old new worked sole).groups g))) ∙ its (sole_alone job old new worked sole) g)
 
   pub answered_none : {E : Type 0} (result : Result (Vec Reply Global) E) → (JobOnlyWriter job old new → (s : Setting) → IsSessionSetting s rack seed session old
-      → MatchResult result (λ rs. AreReplies s job c rs.items (section_of old new)) (λ e. IsIdle s job c (section_of old new))) → AllOnlyWriters old new → (g : ℕ) → arrivals (gained old.groups new.groups g) ≡ []
+      → MatchResult result (λ rs. AreReplies s job c rs.items (section_of old new)) (λ e. IsIdleCommand s job c (section_of old new))) → AllOnlyWriters old new → (g : ℕ) → arrivals (gained old.groups new.groups g) ≡ []
   answered_none (Ok rs) says = plain_none (λ alone g. no_moves (its_setting rack seed session old) job c rs.items (section_of old new) none (says alone (its_setting rack seed session old) (is_setting rack seed session old filled)) g)
   answered_none (Err e) says = plain_none (λ alone g. idle_moves (its_setting rack seed session old) job c (section_of old new) (says alone (its_setting rack seed session old) (is_setting rack seed session old filled)) g)

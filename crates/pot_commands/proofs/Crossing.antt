@@ -4,7 +4,7 @@ use denote.Param.Send.{IsSend, IsSync, sendable, view_send, view_sync, recorded_
 use denote.Ref.{NamedLft}
 use denote.Struct.Declared.{shape}
 use denote.Struct.Struct.{Struct}
-use Rattle.std.proofs.Crossing.{crosses, Box-send, Vec-send}
+use Rattle.std.proofs.Crossing.{crosses}
 use Rattle.pot_outside.specs.declared.archive.Archive.{Ghosts}
 use Rattle.pot_bytes.specs.contracts.rack.Rack as rack
 use Rattle.pot_index.specs.contracts.index.Index as index
@@ -27,25 +27,7 @@ use Rattle.pot_shared.specs.contracts.vault.Vault.TheInside as vault_inside
 use Rattle.pot_commands.specs.contracts.beginning.Task as task
 use Rattle.pot_commands.specs.contracts.line_job.LineJob as line_job
 use Rattle.pot_commands.specs.contracts.line_job.LineJob.TheInside as line_inside
-use Rattle.std.specs.contracts.snapshot.Snapshot as snapshot
-use Rattle.pot_bytes.specs.contracts.block.Block as block
-use Rattle.pot_outside.specs.contracts.archive.Shelf as shelf
-use Rattle.pot_outside.proofs.archive.Shelf.TheSendSync as send_shelf
-use Rattle.pot_outside.specs.contracts.archive.Marks as marks
-use Rattle.pot_outside.proofs.archive.Marks.TheSendSync as send_marks
-use Rattle.pot_machine.specs.contracts.entry.Entry as entry
-use Rattle.pot_machine.proofs.entry.Entry.TheSendSync as send_entry
-use Rattle.pot_machine.proofs.table.GroupTable.TheSendSync as send_table
-use Rattle.pot_steps.specs.contracts.flight.Flight as flight
-use Rattle.pot_steps.proofs.flight.Flight.TheSendSync as send_flight
-use Rattle.pot_group.specs.contracts.known.Known as known
-use Rattle.pot_group.proofs.known.Known.TheSendSync as send_known
-use Rattle.pot_shelves.specs.contracts.archives.Archives as archives
-use Rattle.pot_shelves.specs.contracts.archives.Archives.TheInside as archives_inside
-use Rattle.pot_group.specs.contracts.group.Group as group
-use Rattle.pot_group.specs.contracts.group.Group.TheInside as group_inside
-use Rattle.pot_execution.specs.contracts.tracked_group.TrackedGroup as tracked_group
-use Rattle.pot_execution.specs.contracts.tracked_group.TrackedGroup.TheInside as followed_inside
+use Rattle.pot_shared.proofs.Crossing.{send_member}
 use Rattle.pot_rows.proofs.Passes.TheSendSync as send_row
 use Rattle.pot_rows.proofs.Turns.TheSendSync as sync_row
 
@@ -56,57 +38,17 @@ sync_rack : IsSync (Struct (shape rack.the_type))
 sync_rack = search (sendable, crosses) depth 60 fits 200000
 
 module _ (A : RattleType) (g : Ghosts A.Denot) (s : IsSend A) where
-  -- by field, since a snapshot has no mark of its own
-  send_archives : IsSend (archives.the_row A g)
-  send_archives =
-      view_send (archives_inside.the_row A g) _ _ _ _ (recorded_send (archives_inside.the_field A g).row _ _ (archives_inside.the_type A g).to_one (struct_send (shape (archives_inside.the_type A g)) (
-        Vec-send (shelf.the_row A) (send_shelf.the_send A s),
-        (
-          Vec-send marks.the_row send_marks.the_send,
-          (Vec-send marks.the_row send_marks.the_send, (Vec-send (snapshot.the_row (shelf.the_row A)) (search crosses depth 5), tt)),
-        ),
-      )))
-
-  send_group : IsSend (group.the_row A g)
-  send_group =
-      view_send (group_inside.the_row A g) _ _ _ _ (recorded_send (group_inside.the_field A g).row _ _ (group_inside.the_type A g).to_one (struct_send (shape (group_inside.the_type A g)) (
-        search (sendable, crosses) depth 20,
-        (
-          send_table.the_send,
-          (
-            send_table.the_send,
-            (
-              Vec-send entry.the_row send_entry.the_send,
-              (
-                Vec-send flight.the_row send_flight.the_send,
-                (
-                  Vec-send (snapshot.the_row block.the_row) (search crosses depth 5),
-                  (send_archives, (Box-send known.the_row send_known.the_send, tt)),
-                ),
-              ),
-            ),
-          ),
-        ),
-      )))
-
-  send_followed : IsSend (tracked_group.the_row A g)
-  send_followed =
-      view_send (followed_inside.the_row A g) _ _ _ _ (recorded_send (followed_inside.the_field A g).row _ _ (followed_inside.the_type A g).to_one (struct_send (shape (followed_inside.the_type A g)) (send_group, tt)))
-
-  send_member : IsSend (member.the_row A g)
-  send_member = search (sendable, crosses, send_followed) depth 60 fits 200000
-
   send_catalog : IsSend (catalog.the_row A g)
   send_catalog =
       view_send (inside.the_row A g) _ _ _ _ (recorded_send (inside.the_field A g).row _ _ (inside.the_type A g).to_one (struct_send (shape (inside.the_type A g)) (
         send_index,
-        (send_row.the_send (member.the_row A g) logged.the_row group_origin.the_row (member_kept.ghosts A g member_kept.no_dict) send_member, tt),
+        (send_row.the_send (member.the_row A g) logged.the_row group_origin.the_row (member_kept.ghosts A g member_kept.no_dict) (send_member A g s), tt),
       )))
 
   send_passes : IsSend (all_passes.the_row A g)
   send_passes =
       view_send (passes_inside.the_row A g) _ _ _ _ (recorded_send (passes_inside.the_field A g).row _ _ (passes_inside.the_type A g).to_one (struct_send (shape (passes_inside.the_type A g)) (
-        send_row.the_send (member.the_row A g) logged.the_row group_origin.the_row (member_kept.ghosts A g member_kept.no_dict) send_member,
+        send_row.the_send (member.the_row A g) logged.the_row group_origin.the_row (member_kept.ghosts A g member_kept.no_dict) (send_member A g s),
         (send_row.the_send (catalog.the_row A g) of_index.the_row catalog_origin.the_row (catalog_kept.ghosts A g catalog_kept.no_dict) send_catalog, tt),
       )))
 
@@ -115,7 +57,7 @@ module _ (A : RattleType) (g : Ghosts A.Denot) (s : IsSend A) where
       view_sync (vault_inside.the_row A g) _ _ _ _ (recorded_sync (vault_inside.the_field A g).row _ _ (vault_inside.the_type A g).to_one (struct_sync (shape (vault_inside.the_type A g)) (
         sync_rack,
         (
-          sync_row.the_sync (member.the_row A g) logged.the_row group_origin.the_row (member_kept.ghosts A g member_kept.no_dict) send_member,
+          sync_row.the_sync (member.the_row A g) logged.the_row group_origin.the_row (member_kept.ghosts A g member_kept.no_dict) (send_member A g s),
           (sync_row.the_sync (catalog.the_row A g) of_index.the_row catalog_origin.the_row (catalog_kept.ghosts A g catalog_kept.no_dict) send_catalog, tt),
         ),
       )))

@@ -31,7 +31,7 @@ use Rattle.pot_commands.specs.declared.working.Ending.TheVariants as ending
 use Rattle.pot_commands.specs.Begun.{AreMovesBegun}
 use Rattle.pot_commands.specs.Blinding.{HasBlinds, AreJobsBlinded}
 use Rattle.pot_commands.specs.Ones.{OneEnds}
-use Rattle.pot_commands.specs.Rows.{AreReplies, HasFilled, IsIdle, IsSessionSetting}
+use Rattle.pot_commands.specs.Rows.{AreReplies, HasFilled, IsIdleCommand, IsSessionSetting}
 use Rattle.pot_commands.specs.Sharing.{Common}
 use Rattle.pot_commands.specs.declared.beginning.Task.{Task}
 use Rattle.pot_commands.specs.Batches.{Line, KnownJoins, AreLines, AllSay, SaysIts, IsAmongLines, lines_of}
@@ -99,7 +99,7 @@ command_drawn b job c old new blinds alone none = by c blinds none
 -- a command alone: no other job logged anything
 module _ (b : Common) (job : ℕ) (c : Command) (old new : Known) (filled : HasFilled b.vault.rack old) (worked : JobWroteOnly job old new) (blinds : HasBlinds b job c old.groups new.groups) where
   quiet_command : {E : Type 0} (result : Result (Vec Reply Global) E) → (JobOnlyWriter job old new → (s : Setting) → IsSessionSetting s b.vault.rack b.seed b.session old
-      → MatchResult result (λ rs. AreReplies s job c rs.items (section_of old new)) (λ e. IsIdle s job c (section_of old new))) → AllOnlyWriters old new
+      → MatchResult result (λ rs. AreReplies s job c rs.items (section_of old new)) (λ e. IsIdleCommand s job c (section_of old new))) → AllOnlyWriters old new
       → MendsNone c → (g : ℕ) → filter is_begin (own job (gained old.groups new.groups g)) ≡ []
   quiet_command (Ok rs) says sole mends g =
       replied_none (its_setting b.vault.rack b.seed b.session old) job c rs.items (section_of old new) mends (its_jobs job old new worked sole)
@@ -109,7 +109,7 @@ module _ (b : Common) (job : ℕ) (c : Command) (old new : Known) (filled : HasF
       (says (sole_alone job old new worked sole) (its_setting b.vault.rack b.seed b.session old) (is_setting b.vault.rack b.seed b.session old filled)) g
 
   pub command_blinds : {E : Type 0} (result : Result (Vec Reply Global) E) → (JobOnlyWriter job old new → (s : Setting) → IsSessionSetting s b.vault.rack b.seed b.session old
-      → MatchResult result (λ rs. AreReplies s job c rs.items (section_of old new)) (λ e. IsIdle s job c (section_of old new))) → AreJobsBlinded b old new
+      → MatchResult result (λ rs. AreReplies s job c rs.items (section_of old new)) (λ e. IsIdleCommand s job c (section_of old new))) → AreJobsBlinded b old new
   command_blinds result says sole j = ⊎_elim
       (λ (e : job ≡ j). subst (λ n. AreDrawn (pads_of b.seed b.session n) (blinds_by n old.groups new.groups)) e
       (command_drawn b job c old new blinds (sole_alone job old new worked sole) (quiet_command result says sole)))

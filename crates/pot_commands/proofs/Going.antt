@@ -8,7 +8,7 @@ use Rattle.pot_worked.proofs.OnlyWriterLemmas.{gain_in_parts}
 use Rattle.pot_rows.specs.Rows.{view_at}
 use Rattle.pot_rows.proofs.WorkLemmas.{row_work_went, row_went_in_parts, row_sole_in_parts, row_sole_alone}
 use Rattle.pot_replies.specs.Settings.{Setting}
-use Rattle.pot_replies.specs.Sections.{Follows}
+use Rattle.pot_replies.specs.Sections.{FollowsSection}
 use Rattle.pot_shared.specs.declared.member.GroupOrigin.{GroupOrigin}
 use Rattle.pot_shared.specs.declared.catalog.CatalogOrigin.{CatalogOrigin}
 use Rattle.pot_shared.specs.Members.{entries_of}
@@ -38,7 +38,7 @@ sole_alone job old new worked sole = record {
   index = row_sole_alone (index.is_of job) old.index new.index worked.index sole.index;
 }
 
-pub known_follows : (old mid new : Known) → AllExtend old mid → AllExtend mid new → Follows (section_of old mid) (section_of mid new) (section_of old new)
+pub known_follows : (old mid new : Known) → AllExtend old mid → AllExtend mid new → FollowsSection (section_of old mid) (section_of mid new) (section_of old new)
 known_follows old mid new first then = record {
   begins = λ g. refl;
   is_added = λ g.

@@ -8,7 +8,7 @@ use Rattle.pot_machine.specs.Logs.{is_of, own, replayed}
 use Rattle.pot_machine.proofs.Logs.{replays_is}
 use Rattle.pot_group.specs.declared.counting.Counts as of_group
 use Rattle.pot_group.specs.declared.telling.LogFull.{LogFull}
-use Rattle.pot_group.specs.Counting.{IsCounted}
+use Rattle.pot_group.specs.Counting.{AreSlotsCounted}
 use Rattle.pot_group.specs.Group.{GroupView}
 use Rattle.pot_worked.specs.WroteOnlyFor.{added, OnlyWriterOf}
 use Rattle.pot_worked.specs.Laws.{AllOf}
@@ -16,7 +16,7 @@ use Rattle.pot_worked.proofs.WroteOnlyForLemmas.{own_in_turn}
 use Rattle.pot_script.specs.declared.reply.Reply.{Reply}
 use Rattle.pot_replies.specs.Settings.{Setting}
 use Rattle.pot_replies.specs.Sections.{Section}
-use Rattle.pot_replies.specs.Listings.{Counts, counts_of, StatusLine, Group, GroupFull, IsStatusLine}
+use Rattle.pot_replies.specs.Listings.{GroupCounts, counts_of, StatusLine, Group, GroupFull, IsStatusLine}
 use Rattle.pot_shared.specs.declared.member.Logged.{Logged}
 use Rattle.pot_shared.specs.Members.{entries_of}
 use Rattle.pot_shared.specs.Ready.{GroupPass, GroupPasses}
@@ -30,10 +30,10 @@ use Rattle.pot_commands.specs.Counting.{CountsTable, CountsLine}
 use Rattle.pot_commands.proofs.Logs.{turn_added}
 
 -- what a count of a group gives is the counts of its table
-abbrev pub plain_counts : of_group.Counts → Counts
+abbrev pub plain_counts : of_group.Counts → GroupCounts
 plain_counts c = record { live = c.live; lost = c.lost; broken = c.broken; stripe = c.stripe; column = c.column }
 
-counted_is : (t : Table) (c : of_group.Counts) → IsCounted t c → plain_counts c ≡ counts_of t
+counted_is : (t : Table) (c : of_group.Counts) → AreSlotsCounted t c → plain_counts c ≡ counts_of t
 counted_is t c is = cc (is.live, is.lost, is.broken, is.stripe, is.column)
 
 -- the line of an answer

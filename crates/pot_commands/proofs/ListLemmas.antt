@@ -22,12 +22,12 @@ use Rattle.pot_rows.proofs.RowLemmas.{at_set}
 use Rattle.pot_machine.specs.Logs.{own}
 use Rattle.pot_replies.specs.Settings.{Setting}
 use Rattle.pot_replies.specs.Sections.{Section, mine, IsSilent, NoneInGroups, names_after}
-use Rattle.pot_replies.specs.Listings.{IsIndexFull, IsListed}
+use Rattle.pot_replies.specs.Listings.{IsIndexFull, AreNamesListed}
 use Rattle.pot_shared.specs.declared.catalog.CatalogOrigin.{CatalogOrigin}
 use Rattle.pot_shared.specs.Members.{entries_of}
 use Rattle.pot_shared.specs.Ready.{GroupPasses, AreReady}
 use Rattle.pot_shared.specs.Catalogs.{IndexPasses, IsIndexReady}
-use Rattle.pot_shared.specs.IndexCalls.{IndexCall, ListsAll}
+use Rattle.pot_shared.specs.IndexCalls.{IndexCall, ListsIndex}
 use Rattle.pot_shared.specs.Works.{of_job, gained, known, JobWroteOnly, JobOnlyWriter, IsSettingOf, section_of}
 use Rattle.pot_shared.proofs.WorkLemmas.{all_none, all_one, row_stays, index_work, index_own}
 use Rattle.pot_commands.proofs.Logs.{names_to, turn_added, same_end}
@@ -49,7 +49,7 @@ list_own job (Err e) = all_none (index.is_of job)
 
 -- what the answer says of the section
 abbrev pub NamesSay : Setting → ℕ → Result (Vec Listed Global) ListFault → Section → Type 0
-NamesSay s job (Ok v) w = IsListed s job v.items w
+NamesSay s job (Ok v) w = AreNamesListed s job v.items w
 NamesSay s job (Err list_fault.LogFull) w = IsIndexFull s 1 job w
 NamesSay s job (Err list_fault.NoMemory) w = IsSilent (mine job w)
 
@@ -58,7 +58,7 @@ pub none_gained : (job : ℕ) (row : GroupPasses) (g : ℕ) → own job (gained 
 none_gained job row g = ap (λ ls. own job (entries_of ls)) (drop-length (view_at row g).seen)
 
 module _ (rack : Rack) (names turn : List TurnName) (job : ℕ) (row : GroupPasses) (v w : IndexPasses) (ready : IsIndexReady rack names turn v)
-    (result : Result (Vec Listed Global) ListFault) (call : IndexCall (ListsAll job result) v w) where
+    (result : Result (Vec Listed Global) ListFault) (call : IndexCall (ListsIndex job result) v w) where
   logs : call.turn.entries ≡ list_entries job result
   logs = list_logs job result call.turn.old call.turn.new call.turn.entries call.turn.call call.turn.log
 
@@ -68,7 +68,7 @@ module _ (rack : Rack) (names turn : List TurnName) (job : ℕ) (row : GroupPass
   pub names_worked : AreReady rack names row → JobWroteOnly job (known row v) (known row w)
   names_worked idle = record {
     groups = row_stays (of_job job) row idle.idle;
-    index = index_work job rack names turn (ListsAll job result) v w ready call all_own;
+    index = index_work job rack names turn (ListsIndex job result) v w ready call all_own;
   }
 
   its_added : added (view_at v 0) (view_at w 0) ≡ call.turn.others ++ call.turn.entries
@@ -85,7 +85,7 @@ module _ (rack : Rack) (names turn : List TurnName) (job : ℕ) (row : GroupPass
     no_groups g = none_gained job row g
 
     its_own : index.own job it.index_added ≡ list_entries job result
-    its_own = index_own job rack names turn (ListsAll job result) v w ready call all_own alone.index ∙ logs
+    its_own = index_own job rack names turn (ListsIndex job result) v w ready call all_own alone.index ∙ logs
 
     -- the log that the call met
     abbrev transition : List Logged
@@ -124,7 +124,7 @@ module _ (rack : Rack) (names turn : List TurnName) (job : ℕ) (row : GroupPass
 -- A LIST, WHICH LEAVES THE GROUPS
 
 module _ (rack : Rack) (names turn : List TurnName) (job : ℕ) (row row' : GroupPasses) (v w : IndexPasses) (idle : AreReady rack names row) (ready : IsIndexReady rack names turn v)
-    (same : row' ≡ row) (result : Result (Vec Listed Global) ListFault) (call : IndexCall (ListsAll job result) v w) where
+    (same : row' ≡ row) (result : Result (Vec Listed Global) ListFault) (call : IndexCall (ListsIndex job result) v w) where
   pub list_worked : JobWroteOnly job (known row v) (known row' w)
   list_worked = subst (λ (r : GroupPasses). JobWroteOnly job (known row v) (known r w)) (sym same) (names_worked rack names turn job row v w ready result call idle)
 

@@ -10,7 +10,7 @@ use Rattle.pot_worked.specs.WroteOnlyFor.{added, IsTurn}
 use Rattle.pot_worked.proofs.WroteOnlyForLemmas.{behind}
 use Rattle.pot_replies.specs.Sections.{names_after}
 
-pub names_to : (rack : Rack) (n m : Names) (log : List plainly.Logged) → index_of.Replays rack n log m → names_after n log ≡ m
+pub names_to : (rack : Rack) (n m : Names) (log : List plainly.Logged) → index_of.ReplaysIndex rack n log m → names_after n log ≡ m
 names_to rack n m [] r = sym r
 names_to rack n m (x ∷ log) r = names_to rack (index_of.after n x) m log r.1
 

@@ -33,7 +33,7 @@ use Rattle.pot_group.specs.Calls.{MoveBeginCall}
 use Rattle.pot_shared.specs.Ready.{AreReady, GroupPasses}
 use Rattle.pot_shared.proofs.MemberLemmas.{entries_append}
 use Rattle.pot_shared.specs.Works.{Known, known, gained, JobOnlyWriter, IsSettingOf, section_of}
-use Rattle.pot_mend.specs.Moves.{IsAsked, MayMove, MigrateChecked, seen_in}
+use Rattle.pot_mend.specs.Moves.{IsOnlyAsked, MayMove, MigrateChecked, seen_in}
 use Rattle.pot_mend.specs.declared.checking.UseFault.{UseFault}
 use Rattle.pot_mend.specs.declared.checking.UseFault.TheVariants as used
 use Rattle.pot_commands.specs.declared.arriving.Unanswered.{Unanswered}
@@ -58,7 +58,7 @@ pub may_begin : (b : Bool) (s : Setting) (logs : ℕ → List Entry) (from to g 
 may_begin b s logs from to g c off may = subst (λ x. MayMove x s logs from to g c) off may
 
 module _ {rack : Rack} {names turn : List TurnName} (job from to : ℕ) {row0 row1 : GroupPasses} {i i1 : IndexPasses} (ready : AreReady rack names row0) (ready1 : AreReady rack names row1)
-    (iready : IsIndexReady rack names turn i) (same : i1 ≡ i) (asked : IsAsked row0 row1) where
+    (iready : IsIndexReady rack names turn i) (same : i1 ≡ i) (asked : IsOnlyAsked row0 row1) where
   abbrev first : Known
   first = known row0 i
 

@@ -20,7 +20,7 @@ use Rattle.pot_script.specs.declared.reply.Reply.TheVariants as replies
 use Rattle.pot_replies.specs.Jobs.{is_move_begin, is_move_of, EachIs}
 use Rattle.pot_replies.specs.Settings.{Setting}
 use Rattle.pot_replies.specs.Sections.{Section, MovesThenRest, JobsAscend, checked, mine, work_of, IsSilent, IsOfJobs}
-use Rattle.pot_replies.specs.Moves.{BeganNone, MayBegin, MayGoOn, Begins, moving_at}
+use Rattle.pot_replies.specs.Moves.{BeganNoMove, MayBegin, MayGoOn, BeginsMove, moving_at}
 use Rattle.pot_shared.specs.Catalogs.{IndexPasses, IsIndexReady}
 use Rattle.pot_shared.specs.Members.{entries_of}
 use Rattle.pot_shared.specs.Ready.{AreReady, GroupPasses}
@@ -79,7 +79,7 @@ ends_by c es none (inr (by, to, has)) = absurd (let e : true ≡ false = not_amo
 
 -- THE REPLY
 
-module _ (s : Setting) (before begun : ℕ → List Entry) (job from to g c : ℕ) (w : Section) (begins : Begins s before begun job from to g c) (elsewhere : (h : ℕ) → h ≢ g → own job (begun h) ≡ [])
+module _ (s : Setting) (before begun : ℕ → List Entry) (job from to g c : ℕ) (w : Section) (begins : BeginsMove s before begun job from to g c) (elsewhere : (h : ℕ) → h ≢ g → own job (begun h) ≡ [])
     (none : filter brings (w.added g) ≡ []) (moves : IsSome (moving_at s w.before g c)) where
   pub moved_reply : (result : Result ℕ MendFault) → MoveRow s job g c result w → IsMigrateReply s before begun job from to (move_reply from to result) w
   moved_reply (Ok slots) row = (
@@ -120,7 +120,7 @@ module _ (s : Setting) (before begun : ℕ → List Entry) (job from to g c : �
   }))
 
 -- the reply to a line that began no move, by the logs when it was checked
-pub unbegun_row : (s : Setting) (before begun : ℕ → List Entry) (job from to : ℕ) (w : Section) → IsSilent (mine job w) → BeganNone s before begun job from to → (reply : Reply)
+pub unbegun_row : (s : Setting) (before begun : ℕ → List Entry) (job from to : ℕ) (w : Section) → IsSilent (mine job w) → BeganNoMove s before begun job from to → (reply : Reply)
     → IsUnbegun s (checked before begun job) from to reply → IsMigrateReply s before begun job from to reply w
 unbegun_row s before begun job from to w silent none (replies.NoArchive number) row = (row.0, (row.1, none, silent))
 unbegun_row s before begun job from to w silent none (replies.InUse number) row = (row, none, silent)
@@ -255,7 +255,7 @@ module _ (rack : Rack) (names turn : List TurnName) (job from to g c : ℕ) (row
       at_check : (λ h. seen_in row0 h ++ filter (λ e. nat_lt (job_of e) job) (gained row0 row1 h)) ≡ seen_in row0
       at_check = none_before (seen_in row0) (gained row0 row1) job its_front
 
-      began : Begins s (seen_in row0) (gained row0 row1) job from to g c
+      began : BeginsMove s (seen_in row0) (gained row0 row1) job from to g c
       began = ⊎_elim
           (λ (b : MayBegin s (seen_in row0) from to g c × (own job (gained row0 row1 g) ≡ entry.MoveBegin job c to ∷ [])). inl (subst (λ logs. MayBegin s logs from to g c) (sym at_check) b.0, b.1))
           (λ (b : MayGoOn s (seen_in row0) from to g c × (own job (gained row0 row1 g) ≡ [])). inr (subst (λ logs. MayGoOn s logs from to g c) (sym at_check) b.0, b.1))

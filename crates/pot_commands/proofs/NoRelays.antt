@@ -17,7 +17,7 @@ use Rattle.pot_script.specs.declared.reply.Reply.TheVariants as replies
 use Rattle.pot_replies.specs.Jobs.{is_look, is_move_begin, is_move_of, EachIs}
 use Rattle.pot_replies.specs.Settings.{Setting}
 use Rattle.pot_replies.specs.Sections.{Section, JobEntries, mine, IsOfJobs, MovesThenRest, work_of}
-use Rattle.pot_replies.specs.Stores.{in_group, Stops}
+use Rattle.pot_replies.specs.Stores.{in_group, StopsStore}
 use Rattle.pot_replies.specs.Listings.{StatusLine, Group, GroupFull, IsStatusLine}
 use Rattle.pot_mend.specs.Moves.{MoveRow}
 use Rattle.pot_mend.specs.declared.fault.MendFault.{MendFault}
@@ -30,7 +30,7 @@ use Rattle.pot_commands.specs.declared.beginning.Task.TheVariants as task
 use Rattle.pot_commands.specs.Begun.{HasTask}
 use Rattle.pot_commands.specs.Jobs.{Says}
 use Rattle.pot_commands.specs.Steps.{IsStill}
-use Rattle.pot_commands.specs.Rows.{IsStoreReply, IsScrubReply, IsListReply, IsReplaceReply, IsMigrateReply, AreStatusReplies, AreReplies, IsIdle}
+use Rattle.pot_commands.specs.Rows.{IsStoreReply, IsScrubReply, IsListReply, IsReplaceReply, IsMigrateReply, AreStatusReplies, AreReplies, IsIdleCommand}
 use Rattle.pot_commands.proofs.NoMoves.{left, not_first, taken}
 
 -- a command that mends nothing
@@ -89,7 +89,7 @@ only_in m group others here g = ⊎_elim
 
 -- THE ENTRIES OF A STORE
 
-stops_none : (s : Setting) (job : ℕ) (name file : List ℕ) (g : ℕ) (ends : List Entry) (m : JobEntries) → Stops s job name file g ends m → filter is_begin ends ≡ []
+stops_none : (s : Setting) (job : ℕ) (name file : List ℕ) (g : ℕ) (ends : List Entry) (m : JobEntries) → StopsStore s job name file g ends m → filter is_begin ends ≡ []
     → (h : ℕ) → filter is_begin (m.own h) ≡ []
 stops_none s job name file g ends m stops none h = ⊎_elim
     (λ (e : g ≡ h). subst (λ k. filter is_begin (m.own k) ≡ []) e
@@ -195,7 +195,7 @@ replied_none s job (commands.Migrate from to) (r ∷ []) w mends its row g =
 replied_none s job _ _ w mends its row g = absurd row
 
 -- and so did one that was left
-pub idle_none : (s : Setting) (job : ℕ) (c : Command) (w : Section) → MendsNone c → IsIdle s job c w → (g : ℕ) → filter is_begin (own job (w.added g)) ≡ []
+pub idle_none : (s : Setting) (job : ℕ) (c : Command) (w : Section) → MendsNone c → IsIdleCommand s job c w → (g : ℕ) → filter is_begin (own job (w.added g)) ≡ []
 idle_none s job (commands.Fetch name) w mends is g = absurd mends
 idle_none s job (commands.Renew name geometry) w mends is g = absurd mends
 idle_none s job _ w mends is g = ap (filter is_begin) (is.0 g)

@@ -25,7 +25,7 @@ use Rattle.pot_shared.specs.Catalogs.{IndexPasses, IsIndexReady}
 use Rattle.pot_group.specs.Calls.{SwapCall}
 use Rattle.pot_shared.specs.Ready.{AreReady, GroupPasses}
 use Rattle.pot_shared.specs.Works.{Known, known, JobOnlyWriter, IsSettingOf, section_of}
-use Rattle.pot_mend.specs.Moves.{IsAsked, ReplaceChecked, seen_in}
+use Rattle.pot_mend.specs.Moves.{IsOnlyAsked, ReplaceChecked, seen_in}
 use Rattle.pot_mend.specs.declared.checking.UseFault.{UseFault}
 use Rattle.pot_mend.specs.declared.checking.UseFault.TheVariants as used
 use Rattle.pot_commands.specs.declared.arriving.Unanswered.{Unanswered}
@@ -34,7 +34,7 @@ use Rattle.pot_commands.specs.Rows.{IsReplaceReply}
 use Rattle.pot_commands.proofs.ArrivingLemmas.{back_all, back_silent, came_all, checked_silent, group_used, logs_met, met_log, met_logs, met_table, its_first, of_jobs, only_here, own_here}
 
 module _ {rack : Rack} {names turn : List TurnName} (job from to : ℕ) {row0 row1 : GroupPasses} {i i1 : IndexPasses} (ready : AreReady rack names row0) (ready1 : AreReady rack names row1)
-    (iready : IsIndexReady rack names turn i) (same : i1 ≡ i) (asked : IsAsked row0 row1) where
+    (iready : IsIndexReady rack names turn i) (same : i1 ≡ i) (asked : IsOnlyAsked row0 row1) where
   abbrev first : Known
   first = known row0 i
 

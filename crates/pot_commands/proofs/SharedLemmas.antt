@@ -14,7 +14,7 @@ use Rattle.pot_rows.specs.Rows.{PassRow, AreOf, HasMoreParts, view_at}
 use Rattle.pot_rows.specs.Parts.{RowCut, RowNew}
 use Rattle.pot_rows.proofs.Lists.{take_next}
 use Rattle.pot_script.specs.declared.command.Command.{Command}
-use Rattle.pot_shared.specs.Sharing.{SameAt}
+use Rattle.pot_shared.specs.Sharing.{SamePasses}
 use Rattle.pot_shared.specs.Works.{Known}
 use Rattle.pot_work.specs.Works.{AreFresh, AreWorked}
 use Rattle.pot_work.specs.declared.JobsRefused.{JobsRefused}
@@ -22,7 +22,7 @@ use Rattle.pot_commands.specs.declared.beginning.Task.{Task}
 use Rattle.pot_commands.specs.Begun.{HasTask, HaveTasks}
 use Rattle.pot_shared.specs.Callers.{CanCall}
 use Rattle.pot_commands.specs.Sharing.{Common}
-use Rattle.pot_commands.specs.Jobs.{JobView, IsDone, Did, IsGiven, AreGiven, AreShared, tasks_in}
+use Rattle.pot_commands.specs.Jobs.{JobView, IsJobDone, Did, IsJobGiven, AreGiven, AreShared, tasks_in}
 
 -- PARTS THAT ARE GIVEN AWAY
 
@@ -46,7 +46,7 @@ module _ {E O : Type 0} where
     new_then : (given : PassRow E O) → RowNew 2 mid given → RowNew 2 old given
     new_then given then at lt = then at (there at lt) ∙ ap (new_view 2) (first at lt)
 
-    same_then : (new : PassRow E O) → SameAt mid new → RowCut n old new
+    same_then : (new : PassRow E O) → SamePasses mid new → RowCut n old new
     same_then new same at lt = same at ∙ first at lt
 
     more_left : (k : ℕ) → n + 2 ≤ k → HasMoreParts k old → HasMoreParts 2 mid
@@ -65,13 +65,13 @@ module _ {E O : Type 0} where
 
 -- THE JOBS SO FAR
 
-given_more : (b : Common) (start : Known) (from : ℕ) (cs : List Command) (js : List JobView) (c : Command) (j : JobView) → AreGiven b start from cs js → IsGiven b start (from + length js) c j
+given_more : (b : Common) (start : Known) (from : ℕ) (cs : List Command) (js : List JobView) (c : Command) (j : JobView) → AreGiven b start from cs js → IsJobGiven b start (from + length js) c j
     → AreGiven b start from (cs ++ c ∷ []) (js ++ j ∷ [])
-given_more b start from [] [] c j given is = (subst (λ n. IsGiven b start n c j) (let e : from + 0 ≡ from = omega arith in e) is, tt)
+given_more b start from [] [] c j given is = (subst (λ n. IsJobGiven b start n c j) (let e : from + 0 ≡ from = omega arith in e) is, tt)
 given_more b start from [] (k ∷ js) c j given is = absurd given
 given_more b start from (d ∷ cs) [] c j given is = absurd given
 given_more b start from (d ∷ cs) (k ∷ js) c j given is =
-    (given.0, given_more b start (suc from) cs js c j given.1 (subst (λ n. IsGiven b start n c j) (let e : from + length (k ∷ js) ≡ suc from + length js = omega arith in e) is))
+    (given.0, given_more b start (suc from) cs js c j given.1 (subst (λ n. IsJobGiven b start n c j) (let e : from + length (k ∷ js) ≡ suc from + length js = omega arith in e) is))
 
 pub given_count : (b : Common) (start : Known) (from : ℕ) (cs : List Command) (js : List JobView) → AreGiven b start from cs js → length js ≡ length cs
 given_count b start from [] [] given = refl
@@ -80,7 +80,7 @@ given_count b start from (c ∷ cs) [] given = absurd given
 given_count b start from (c ∷ cs) (j ∷ js) given = let n = given_count b start (suc from) cs js given.1 in omega (arith, n)
 
 -- none of them is done
-pub given_fresh : (b : Common) (start : Known) (from : ℕ) (cs : List Command) (js : List JobView) → AreGiven b start from cs js → AreFresh IsDone js
+pub given_fresh : (b : Common) (start : Known) (from : ℕ) (cs : List Command) (js : List JobView) → AreGiven b start from cs js → AreFresh IsJobDone js
 given_fresh b start from [] [] given k x at done = absurd (cc at)
 given_fresh b start from [] (j ∷ js) given k x at done = absurd given
 given_fresh b start from (c ∷ cs) [] given k x at done = absurd given
@@ -113,14 +113,14 @@ module _ (b : Common) (old : Known) (from : ℕ) (lines : List Command) (n : ℕ
       )
 
   -- and one more has its job
-  pub goes_sharing : (c : Command) (j : JobView) (new : Known) → c ≡ get_or lines n c → IsGiven b now (from + n) c j → RowCut 2 now.groups new.groups → RowCut 2 now.index new.index → CanCall b.vault new
+  pub goes_sharing : (c : Command) (j : JobView) (new : Known) → c ≡ get_or lines n c → IsJobGiven b now (from + n) c j → RowCut 2 now.groups new.groups → RowCut 2 now.index new.index → CanCall b.vault new
       → IsSharing b old from lines (n + 1) (js ++ j ∷ []) new
   goes_sharing c j new at given cut cut_index can_new =
       let long : length (js ++ j ∷ []) ≡ length js + 1 = length-append js (j ∷ []) in
       let twice : 2 * length js + 2 ≡ 2 * length (js ++ j ∷ []) = omega (arith, long) in
       let more : take (n + 1) lines ≡ take n lines ++ c ∷ [] =
       (let e : n + 1 ≡ suc n = omega arith in ap (λ k. take k lines) e) ∙ take_next lines n c (slice_get_read lines (length lines) n c refl within at) in
-      let here : IsGiven b old (from + length js) c j = record {
+      let here : IsJobGiven b old (from + length js) c j = record {
         common = given.common;
         number = given.number ∙ ap (λ k. from + k) (sym is.count);
         line = given.line;
@@ -141,7 +141,7 @@ module _ (b : Common) (old : Known) (from : ℕ) (lines : List Command) (n : ℕ
       }
 
   -- where memory is short the jobs so far are left
-  pub short_sharing : (new : Known) → SameAt now.groups new.groups → SameAt now.index new.index → AreShared b old from (take (length js) lines) js new
+  pub short_sharing : (new : Known) → SamePasses now.groups new.groups → SamePasses now.index new.index → AreShared b old from (take (length js) lines) js new
   short_sharing new same same_index = record {
     given = subst (λ k. AreGiven b old from (take k lines) js) (sym is.count) is.shared.given;
     groups = same_then b.vault.groups (2 * length js) old.groups now.groups can.ready.of is.can.ready.of is.shared.groups new.groups same;
@@ -164,8 +164,8 @@ back_shared b old from lines js ks now is same =
 
 -- so the jobs of all lines were worked, or none was
 pub lines_worked : (b : Common) (old : Known) (from : ℕ) (lines : List Command) (tasks : List Task) (js : List JobView) (now : Known) (result : Result (Vec JobView Global) (JobsRefused JobView)) → AreShared b old from lines js now
-    → tasks_in js ≡ tasks → IfOk result (λ back. AreWorked IsDone Did js back.items) → IfErr result (λ refused. refused.jobs.items ≡ js)
-    → MatchResult result (λ back. (ks : List JobView) × AreShared b old from lines ks now × (tasks_in ks ≡ tasks) × AreWorked IsDone Did ks back.items)
+    → tasks_in js ≡ tasks → IfOk result (λ back. AreWorked IsJobDone Did js back.items) → IfErr result (λ refused. refused.jobs.items ≡ js)
+    → MatchResult result (λ back. (ks : List JobView) × AreShared b old from lines ks now × (tasks_in ks ≡ tasks) × AreWorked IsJobDone Did ks back.items)
     (λ refused. AreShared b old from (take (length refused.jobs.items) lines) refused.jobs.items now)
 lines_worked b old from lines tasks js now (Ok back) shared same worked refused = (js, shared, same, worked)
 lines_worked b old from lines tasks js now (Err r) shared same worked refused = back_shared b old from lines js r.jobs.items now shared refused

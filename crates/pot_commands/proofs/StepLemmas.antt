@@ -1,5 +1,5 @@
 -- A command alone as a step of a script, and what is left of a step that has its replies.
-use Rattle.std.proofs.Common.{◌≡◌, ◌<◌, ◌≤◌, ◌+◌, ◌^◌, ℕ, suc, inl, inr, List, [], ◌∷◌, length, ap, sym, ◌∙◌, subst, arith}
+use Rattle.std.proofs.Common.{◌≡◌, ◌<◌, ◌≤◌, ◌+◌, ◌^◌, ℕ, suc, inl, inr, List, [], ◌∷◌, length, refl, ap, sym, ◌∙◌, subst, arith}
 use Rattle.std.specs.Prelude.{Result, Ok, Err, Vec, MatchResult}
 use Rattle.std.specs.Global.{Global}
 use Rattle.std.specs.List.{AllByRecursion, flat_map}
@@ -16,11 +16,11 @@ use Rattle.pot_rows.specs.Rows.{PassRow, HasMoreParts}
 use Rattle.pot_shared.specs.Ready.{GroupPasses, AreReady}
 use Rattle.pot_shared.specs.Catalogs.{IndexPasses, IsIndexReady}
 use Rattle.pot_shared.specs.Works.{Known, known, JobWroteOnly, JobOnlyWriter, section_of}
-use Rattle.pot_commands.specs.Rows.{IsSessionSetting, AreReplies, IsIdle, IsWorked, Row}
+use Rattle.pot_commands.specs.Rows.{IsSessionSetting, AreReplies, IsIdleCommand, IsWorked, Row}
 use Rattle.pot_shared.specs.Going.{AllStay}
 use Rattle.pot_commands.specs.declared.arriving.Unanswered.{Unanswered}
 use Rattle.pot_commands.specs.declared.arriving.Unanswered.TheVariants as unanswered
-use Rattle.pot_commands.specs.Steps.{IsBatched, IsWorkedStep, StepGives, StepLeaves, StepStops, AreLinesLeft, step_of}
+use Rattle.pot_commands.specs.Steps.{AsksArchive, IsBatched, IsWorkedStep, StepGives, StepLeaves, StepStops, AreLinesLeft, step_of}
 use Rattle.pot_commands.specs.Taking.{Took, asks, asks_in}
 use Rattle.pot_outside.specs.Rooms.{RoomState}
 use Rattle.pot_commands.proofs.Going.{sole_alone}
@@ -44,12 +44,12 @@ module _ (rack : Rack) (seed : List ℕ) (session job : ℕ) (c : Command) (old 
       (of, (row.0, row.1))
 
   -- or it has none
-  pub one_leaves : (JobOnlyWriter job old new → (s : Setting) → IsSessionSetting s rack seed session old → IsIdle s job c (section_of old new)) → StepLeaves rack seed session job (One c) old new
+  pub one_leaves : (JobOnlyWriter job old new → (s : Setting) → IsSessionSetting s rack seed session old → IsIdleCommand s job c (section_of old new)) → StepLeaves rack seed session job (One c) old new
   one_leaves says sole s setting = (its_jobs job old new worked sole, inl (says (sole_alone job old new worked sole) s setting))
 
-  pub one_stops : (e : Unanswered) → (JobOnlyWriter job old new → (s : Setting) → IsSessionSetting s rack seed session old → IsIdle s job c (section_of old new)) → StepStops rack seed session job (One c) old new e
-  one_stops unanswered.RoomFailed says = λ sole s setting. (its_jobs job old new worked sole, says (sole_alone job old new worked sole) s setting)
-  one_stops unanswered.NoMemory says = one_leaves says
+  pub one_stops : (e : Unanswered) → (e ≡ unanswered.RoomFailed → AsksArchive c) → (JobOnlyWriter job old new → (s : Setting) → IsSessionSetting s rack seed session old → IsIdleCommand s job c (section_of old new)) → StepStops rack seed session job (One c) old new e
+  one_stops unanswered.RoomFailed asked says = λ sole s setting. (its_jobs job old new worked sole, (asked refl, says (sole_alone job old new worked sole) s setting))
+  one_stops unanswered.NoMemory asked says = one_leaves says
 
 -- lines that have their replies
 rows_left : (s : Setting) (job : ℕ) (lines : List Command) (rs : List Reply) (w : Section) (h : MovesThenRest w) → Rows (Row s) job lines rs w h → AreLinesLeft s job lines w h
@@ -79,13 +79,13 @@ module _ (step : script.Step) (c : Command) (is : step ≡ steps.One c) where
   pub one_job : (job : ℕ) → job + jobs_in (step_of step) ≤ 2 ^ 31 → job < 2 ^ 31
   one_job job fits = (let n = subst (λ d. job + jobs_in (step_of d) ≤ 2 ^ 31) is fits in omega (arith, n))
 
-  pub one_says : (rack : Rack) (seed : List ℕ) (session job : ℕ) (old new : Known) → JobWroteOnly job old new → (result : Result (Vec Reply Global) Unanswered)
-      → (JobOnlyWriter job old new → (s : Setting) → IsSessionSetting s rack seed session old → MatchResult result (λ replies. AreReplies s job c replies.items (section_of old new)) (λ e. IsIdle s job c (section_of old new)))
+  pub one_says : (rack : Rack) (seed : List ℕ) (session job : ℕ) (old new : Known) → JobWroteOnly job old new → (result : Result (Vec Reply Global) Unanswered) → (result ≡ Err unanswered.RoomFailed → AsksArchive c)
+      → (JobOnlyWriter job old new → (s : Setting) → IsSessionSetting s rack seed session old → MatchResult result (λ replies. AreReplies s job c replies.items (section_of old new)) (λ e. IsIdleCommand s job c (section_of old new)))
       → MatchResult result (λ replies. StepGives rack seed session job (step_of step) old new replies.items) (λ e. StepStops rack seed session job (step_of step) old new e)
-  one_says rack seed session job old new worked (Ok replies) says =
+  one_says rack seed session job old new worked (Ok replies) asked says =
       subst (λ d. StepGives rack seed session job (step_of d) old new replies.items) (sym is) (one_gives rack seed session job c old new worked replies.items says)
-  one_says rack seed session job old new worked (Err e) says =
-      subst (λ d. StepStops rack seed session job (step_of d) old new e) (sym is) (one_stops rack seed session job c old new worked e says)
+  one_says rack seed session job old new worked (Err e) asked says =
+      subst (λ d. StepStops rack seed session job (step_of d) old new e) (sym is) (one_stops rack seed session job c old new worked e (λ q. asked (cc q)) says)
 
 module _ (step : script.Step) (lines now : List Command) (is : step ≡ steps.Together lines) (same : now ≡ lines) where
   together_is : Together now ≡ step_of step

@@ -2,7 +2,7 @@
 use Rattle.std.proofs.Common.{◌≡◌, ◌≤◌, ◌+◌, ◌++◌, ℕ, List, [], length, take, drop, refl, ap, sym, ◌∙◌, arith, Result, Ok, Err, IsErr, append_assoc, append-nil, length-append}
 use Rattle.std.proofs.lemmas.List.{take-append-drop}
 use Rattle.std.proofs.Math.Seq.{take-append-add}
-use Rattle.pot_commands.specs.Streams.{Writes, WroteSome}
+use Rattle.pot_commands.specs.Streams.{WritesText, WroteSome}
 use Rattle.pot_outside.specs.Accounts.{Transition}
 use Rattle.pot_outside.specs.declared.faults.Failed.{Failed}
 
@@ -37,6 +37,6 @@ cut_off before now text rest count new p h e = (
       ∙ ap (λ r. before ++ r) (sym (take-append-add p.done rest count) ∙ ap (λ t. take (length p.done + count) t) (sym p.parts)),
 )
 
-pub is_cut_off : (sink : Transition (List ℕ)) (text : List ℕ) (r : Result (Unit {0}) Failed) → IsErr r → WroteSome sink text → Writes sink text r
+pub is_cut_off : (sink : Transition (List ℕ)) (text : List ℕ) (r : Result (Unit {0}) Failed) → IsErr r → WroteSome sink text → WritesText sink text r
 is_cut_off sink text (Ok u) h p = absurd (cc)
 is_cut_off sink text (Err e) h p = p

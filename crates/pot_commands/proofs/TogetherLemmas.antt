@@ -18,18 +18,18 @@ use Rattle.pot_script.specs.declared.command.Command.{Command}
 use Rattle.pot_script.specs.declared.reply.Reply.{Reply}
 use Rattle.pot_shared.specs.Members.{entries_of}
 use Rattle.pot_replies.specs.Settings.{Setting}
-use Rattle.pot_replies.specs.Sections.{Section, MovesThenRest, Follows, IsOfJobs}
+use Rattle.pot_replies.specs.Sections.{Section, MovesThenRest, FollowsSection, IsOfJobs}
 use Rattle.pot_replies.specs.Sessions.{Together, Rows}
 use Rattle.pot_pads.specs.Pads.{pads_of}
 use Rattle.pot_shared.specs.Works.{Known, blinds_by, blinds_in, of_job, section_of, gained}
 use Rattle.pot_commands.specs.Rows.{IsSessionSetting, HasFilled, Row}
-use Rattle.pot_shared.specs.Going.{Stays, AllOnlyWriters, AllStay, AllExtend}
+use Rattle.pot_shared.specs.Going.{PassesStay, AllOnlyWriters, AllStay, AllExtend}
 use Rattle.pot_commands.specs.declared.beginning.Task.{Task}
 use Rattle.pot_commands.specs.Begun.{HasTask, HaveBegun, AreMovesBegun}
 use Rattle.pot_commands.specs.Steps.{StepGives, StepLeaves, AreLinesLeft}
 use Rattle.pot_shared.specs.Callers.{CanCall}
 use Rattle.pot_commands.specs.Sharing.{Common}
-use Rattle.pot_commands.specs.Jobs.{JobView, HasPasses, IsDone, Did, AreGiven, AreShared, AllJoined, reply_in, has_reply, replies_in, all_replied, tasks_in}
+use Rattle.pot_commands.specs.Jobs.{JobView, HasPasses, IsJobDone, Did, AreGiven, AreShared, AllJoined, reply_in, has_reply, replies_in, all_replied, tasks_in}
 use Rattle.pot_commands.specs.Batches.{Line, group_rows, index_rows, KnownJoins, IsGivenOf, AreLines, AllSay, lines_of, tasks_of, replies_of, have_replies, BringsNone}
 use Rattle.pot_commands.proofs.Going.{known_follows, setting_of_stays, setting_stays, sole_parts}
 use Rattle.pot_commands.proofs.Brought.{its_setting, is_setting}
@@ -116,7 +116,7 @@ module _ {E O : Type 0} (rows : Line → CarriedRow E O) where
 
   -- they stay what they were before they were shared out
   pub joins_stay : (names : List TurnName) (cs : List Line) (old v x : PassRow E O) → AreOf names old → AreOf names v → AreOf names x → RowCut (2 * length cs) old v → HasMoreParts (2 * length cs) old
-      → ((at : ℕ) → at < length names → HaveTwo at cs) → RowJoins v (map rows cs) x → Stays old x
+      → ((at : ℕ) → at < length names → HaveTwo at cs) → RowJoins v (map rows cs) x → PassesStay old x
   joins_stay names cs old v x o of of' cut more two joins = record {
     names = of'.0 ∙ sym o.0;
     origin = λ at. (joins_keep at cs v x joins).0 ∙ ap (λ (u : View E O). u.origin) (cut_at names old o (2 * length cs) v of cut at);
@@ -135,7 +135,7 @@ AreDid [] [] = Unit {0}
 AreDid (j ∷ js) (k ∷ ks) = Did j k × AreDid js ks
 AreDid _ _ = ⊥
 
-pub are_did : (js ks : List JobView) → AreWorked IsDone Did js ks → AreDid js ks
+pub are_did : (js ks : List JobView) → AreWorked IsJobDone Did js ks → AreDid js ks
 are_did [] [] is = tt
 are_did [] (k ∷ ks) is = absurd (let n = is.count in omega (arith, n))
 are_did (j ∷ js) [] is = absurd (let n = is.count in omega (arith, n))
@@ -373,8 +373,8 @@ module _ (b : Common) (old v x : Known) (from : ℕ) (cs : List Command) (js ks 
       begun = subst (λ ls. HaveBegun s from ls (tasks_of zs) (section_of start old)) (sym lines)
           (subst (λ ts. HaveBegun s from cs ts (section_of start old)) (sym (zip_tasks b old js ks did ∙ same_tasks)) (moves.begun soles.0 s is.setting))
 
-      follows : Follows (section_of start old) (section_of v x) (section_of start x)
-      follows = subst (λ (u : Section). Follows (section_of start old) u (section_of start x)) (sym section) (known_follows start old x moves.went together_went)
+      follows : FollowsSection (section_of start old) (section_of v x) (section_of start x)
+      follows = subst (λ (u : Section). FollowsSection (section_of start old) u (section_of start x)) (sym section) (known_follows start old x moves.went together_went)
 
       its_gives : all_replied ks ≡ true → IsOfJobs from (length cs) (section_of start x) × ((h : MovesThenRest (section_of start x)) × Rows (Row s) from cs (replies_in ks) (section_of start x) h)
       its_gives all =
@@ -411,10 +411,10 @@ pub record AreLinesWorked (b : Common) (old v : Known) (from : ℕ) (cs : List C
   pub given : List JobView
   pub shared : AreShared b old from cs given v
   pub tasks_are : tasks_in given ≡ tasks
-  pub are_worked : AreWorked IsDone Did given ks
+  pub are_worked : AreWorked IsJobDone Did given ks
 
 pub lines_worked_are : (b : Common) (old v : Known) (from : ℕ) (cs : List Command) (tasks : List Task) (ks : List JobView)
-    → ((js : List JobView) × AreShared b old from cs js v × (tasks_in js ≡ tasks) × AreWorked IsDone Did js ks) → AreLinesWorked b old v from cs tasks ks
+    → ((js : List JobView) × AreShared b old from cs js v × (tasks_in js ≡ tasks) × AreWorked IsJobDone Did js ks) → AreLinesWorked b old v from cs tasks ks
 lines_worked_are b old v from cs tasks ks (js, shared, same, worked) = record { given = js; shared = shared; tasks_are = same; are_worked = worked }
 
 -- A batch was worked, and the passes of its jobs were taken back.

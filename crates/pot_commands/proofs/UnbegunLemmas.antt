@@ -16,7 +16,7 @@ use Rattle.pot_rows.specs.Parts.{RowCut, RowJoined}
 use Rattle.pot_rows.proofs.RowLemmas.{at_past}
 use Rattle.pot_script.specs.declared.command.Command.{Command}
 use Rattle.pot_shared.specs.Members.{entries_of}
-use Rattle.pot_shared.specs.Sharing.{SameAt}
+use Rattle.pot_shared.specs.Sharing.{SamePasses}
 use Rattle.pot_replies.specs.Sections.{Section, IsOfJobs}
 use Rattle.pot_replies.specs.Sessions.{Together}
 use Rattle.pot_shared.specs.Works.{Known, section_of, gained}
@@ -80,7 +80,7 @@ module _ {E O : Type 0} where
         back_at at u js y x more new.1 (omega (arith, few)) here
 
     same_back : (names : List TurnName) (js : List JobView) (old v x : PassRow E O) → AreOf names old → AreOf names x → RowCut (2 * length js) old v → HasMoreParts (2 * length js) old
-        → ((at : ℕ) → at < length names → AllNew at (view_at old at) js) → RowsJoined v js x → SameAt old x
+        → ((at : ℕ) → at < length names → AllNew at (view_at old at) js) → RowsJoined v js x → SamePasses old x
     same_back names js old v x o of cut more new joined at = elim (cases_lt at (length names)) [
       | inl lt ↦ (let within : at < length old.names = (let l = ap length o.0 in omega (arith, lt, l)) in back_at at (view_at old at) js v x joined (new at lt) (more at within) (cut at within))
       | inr le ↦ at_past names x at of le ∙ sym (at_past names old at o le)
@@ -119,7 +119,7 @@ pub fewer_jobs : (b : Common) (old v : Known) (from : ℕ) (cs : List Command) (
 fewer_jobs b old v from cs js shared = (let n = given_count b old from (take (length js) cs) js shared.given in let f = fewer (length js) cs in omega (arith, n, f))
 
 pub unbegun : (b : Common) (old v x : Known) (from : ℕ) (cs : List Command) (js : List JobView) → CanCall b.vault old → CanCall b.vault x → HasMoreParts (2 * length cs) old.groups → HasMoreParts (2 * length cs) old.index
-    → AreShared b old from (take (length js) cs) js v → AllJoined v js x → SameAt old.groups x.groups × SameAt old.index x.index
+    → AreShared b old from (take (length js) cs) js v → AllJoined v js x → SamePasses old.groups x.groups × SamePasses old.index x.index
 unbegun b old v x from cs js can can_x more more_index shared joined =
     let le = fewer_jobs b old v from cs js shared in (
       same_back (λ j. j.passes.groups) b.vault.groups js old.groups v.groups x.groups can.ready.of can_x.ready.of shared.groups (λ at lt. (let m = more at lt in omega (arith, m, le)))
@@ -130,7 +130,7 @@ unbegun b old v x from cs js can can_x more more_index shared joined =
 
 -- NOTHING WAS LOGGED
 
-module _ (b : Common) (old x : Known) (can : CanCall b.vault old) (can_x : CanCall b.vault x) (same : SameAt old.groups x.groups) (same_index : SameAt old.index x.index) where
+module _ (b : Common) (old x : Known) (can : CanCall b.vault old) (can_x : CanCall b.vault x) (same : SamePasses old.groups x.groups) (same_index : SamePasses old.index x.index) where
   pub unbegun_went : AllExtend old x
   unbegun_went =
       let went = work_all_went 1 old old (stayed_worked b.vault.rack b.vault.groups b.vault.index 1 old.groups old.index can.ready can.index_ready) in
@@ -196,7 +196,7 @@ pub record IsUnbegun (b : Common) (old v x : Known) (from : ℕ) (cs : List Comm
   pub joined : AllJoined v js x
 
 module _ (b : Common) (old v x : Known) (from : ℕ) (cs : List Command) (js : List JobView) (is : IsUnbegun b old v x from cs js) where
-  same_both : SameAt old.groups x.groups × SameAt old.index x.index
+  same_both : SamePasses old.groups x.groups × SamePasses old.index x.index
   same_both = unbegun b old v x from cs js is.can is.can_x is.parts.0 is.parts.1 is.shared is.joined
 
   pub back_went : AllExtend old x

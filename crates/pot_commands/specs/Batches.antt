@@ -14,7 +14,7 @@ use Rattle.pot_shared.specs.declared.catalog.CatalogOrigin.{CatalogOrigin}
 use Rattle.pot_shared.specs.declared.member.Logged.{Logged}
 use Rattle.pot_shared.specs.declared.member.GroupOrigin.{GroupOrigin}
 use Rattle.pot_replies.specs.Settings.{Setting}
-use Rattle.pot_replies.specs.Sections.{Section, MovesThenRest, Follows, IsOfJobs, Widens}
+use Rattle.pot_replies.specs.Sections.{Section, MovesThenRest, FollowsSection, IsOfJobs, Widens}
 use Rattle.pot_replies.specs.Sessions.{Rows}
 use Rattle.pot_shared.specs.Works.{Known, JobWroteOnly, JobOnlyWriter, section_of, gained}
 use Rattle.pot_commands.specs.declared.beginning.Task.{Task}
@@ -127,7 +127,7 @@ BatchGives =
     → AreLines v from cs → KnownJoins v cs x → AllSay rack seed session cs → have_replies cs ≡ true
     → AllOnlyWriters v x → (s : Setting) → IsSessionSetting s rack seed session v
     → (moves whole : Section) → HaveBegun s from (lines_of cs) (tasks_of cs) moves
-    → Follows moves (section_of v x) whole
+    → FollowsSection moves (section_of v x) whole
     → IsOfJobs from (length (lines_of cs)) whole
     × ((h : MovesThenRest whole) × Rows (Row s) from (lines_of cs) (replies_of cs) whole h)
 
@@ -138,6 +138,6 @@ BatchLeaves =
     → AreLines v from cs → KnownJoins v cs x → AllSay rack seed session cs
     → AllOnlyWriters v x → (s : Setting) → IsSessionSetting s rack seed session v
     → (moves whole : Section) → HaveBegun s from (lines_of cs) (tasks_of cs) moves
-    → Follows moves (section_of v x) whole
+    → FollowsSection moves (section_of v x) whole
     → IsOfJobs from (length (lines_of cs)) whole
     × ((h : MovesThenRest whole) × AreLinesLeft s from (lines_of cs) whole h)

@@ -10,7 +10,7 @@ use Rattle.pot_script.specs.declared.command.Command.TheVariants as commands
 use Rattle.pot_replies.specs.Jobs.{is_move_begin, EachIs}
 use Rattle.pot_replies.specs.Settings.{Setting}
 use Rattle.pot_replies.specs.Sections.{Section, mine, checked, IsOfJobs, IsSilent, JobsAscend}
-use Rattle.pot_replies.specs.Moves.{BeganNone, Begins, BeganElsewhere, moving_at}
+use Rattle.pot_replies.specs.Moves.{BeganNoMove, BeginsMove, BeganElsewhere, moving_at}
 use Rattle.pot_shared.specs.Works.{Known, IsSettingOf, section_of}
 use Rattle.pot_commands.specs.declared.beginning.Task.{Task}
 use Rattle.pot_commands.specs.declared.beginning.Task.TheVariants as task
@@ -51,11 +51,11 @@ LineBegins s job c _ w = ⊥
 abbrev pub IsBegun : Setting → (ℕ → List Entry) → (ℕ → List Entry) → ℕ → Command → Task → Type 0
 IsBegun s before begun job c task.Line = (g : ℕ) → own job (begun g) ≡ []
 IsBegun s before begun job (commands.Migrate from to) (task.Move at) =
-    Begins s before begun job from to at.group at.column
+    BeginsMove s before begun job from to at.group at.column
     × BeganElsewhere s before begun job from to at.group
     × IsSome (moving_at s (λ g. before g ++ begun g) at.group at.column)
 IsBegun s before begun job (commands.Migrate from to) (task.Told reply) =
-    IsUnbegun s (checked before begun job) from to reply × BeganNone s before begun job from to
+    IsUnbegun s (checked before begun job) from to reply × BeganNoMove s before begun job from to
 IsBegun s before begun job c _ = ⊥
 
 -- The first lines have these tasks, and all that was added are the moves that they began, in order.

@@ -19,7 +19,7 @@ use Rattle.pot_commands.specs.declared.beginning.Task.TheVariants as task
 use Rattle.pot_commands.specs.Arriving.{move_reply}
 use Rattle.pot_commands.specs.Begun.{HasTask}
 use Rattle.pot_commands.specs.Blinding.{HasBlinds}
-use Rattle.pot_commands.specs.Rows.{IsSessionSetting, AreReplies, IsIdle}
+use Rattle.pot_commands.specs.Rows.{IsSessionSetting, AreReplies, IsIdleCommand}
 use Rattle.pot_shared.specs.Callers.{CanCall}
 use Rattle.pot_shared.specs.Vaults.{VaultView}
 use Rattle.pot_commands.specs.Sharing.{Common}
@@ -53,15 +53,15 @@ pub record CanBegin (j : JobView) : Type 0 where
 abbrev pub CanWork : JobView → Type 0
 CanWork j = j.answer ≡ None → CanBegin j
 
-abbrev pub IsDone : JobView → Type 0
-IsDone j = IsSome j.answer
+abbrev pub IsJobDone : JobView → Type 0
+IsJobDone j = IsSome j.answer
 
 -- what is told of a section by the answer of a line that moves nothing, which is its reply or that
 -- memory ran out
 abbrev pub SaysStill : Setting → ℕ → Command → Option (Result Reply NoMemory) → Section → Type 0
 SaysStill s job c None w = ⊥
 SaysStill s job c (Some (Ok reply)) w = AreReplies s job c (reply ∷ []) w
-SaysStill s job c (Some (Err e)) w = IsIdle s job c w
+SaysStill s job c (Some (Err e)) w = IsIdleCommand s job c w
 
 -- of a `migrate` whose column moves: how far the move came, which is its reply
 abbrev pub SaysMove : Setting → ℕ → Command → MoveAt → Option (Result Reply NoMemory) → Section
@@ -94,7 +94,7 @@ pub record Did (j k : JobView) : Type 0 where
 -- SHARED OUT
 
 -- the job of a line that was not begun, with new passes of two parts, which know what these know
-pub record IsGiven (b : Common) (start : Known) (job : ℕ) (c : Command) (j : JobView) : Type 0 where
+pub record IsJobGiven (b : Common) (start : Known) (job : ℕ) (c : Command) (j : JobView) : Type 0 where
   pub common : j.common ≡ b
   pub number : j.job ≡ job
   pub line : j.line ≡ c
@@ -108,7 +108,7 @@ pub record IsGiven (b : Common) (start : Known) (job : ℕ) (c : Command) (j : J
 abbrev pub AreGiven : Common → Known → ℕ → List Command → List JobView → Type 0
 AreGiven b start from [] [] = Unit {0}
 AreGiven b start from (c ∷ cs) (j ∷ js) =
-    IsGiven b start from c j × AreGiven b start (suc from) cs js
+    IsJobGiven b start from c j × AreGiven b start (suc from) cs js
 AreGiven b start from _ _ = ⊥
 
 -- The lines were shared out to these jobs, which took their parts from the passes.

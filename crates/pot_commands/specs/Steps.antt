@@ -1,6 +1,6 @@
 -- What is told of a step of a script that was worked, a command alone or the jobs of a batch: by
 -- the entries of its jobs, if nobody else logged anything meanwhile.
-use Rattle.std.specs.Prelude.{◌≡◌, ◌⊎◌, ◌<◌, ◌≤◌, ℕ, suc, List, [], ◌∷◌, length, map}
+use Rattle.std.specs.Prelude.{◌≡◌, ◌⊎◌, ◌<◌, ◌≤◌, ℕ, suc, List, [], ◌∷◌, Contains, length, map}
 use Rattle.std.specs.List.{AllByRecursion}
 use Rattle.pot_bytes.specs.declared.rack.Rack.{Rack}
 use Rattle.pot_machine.specs.Logs.{own}
@@ -10,13 +10,13 @@ use Rattle.pot_script.specs.declared.grouping.Step as script
 use Rattle.pot_script.specs.declared.grouping.Step.TheVariants as steps
 use Rattle.pot_script.specs.declared.reply.Reply.{Reply}
 use Rattle.pot_replies.specs.Settings.{Setting}
-use Rattle.pot_replies.specs.Moves.{BeganNone, Begins, BeganElsewhere}
-use Rattle.pot_replies.specs.Sections.{Section, MovesThenRest, mine, IsEmpty, IsOfJobs, IsSilent, work_of}
+use Rattle.pot_replies.specs.Moves.{BeganNoMove, BeginsMove, BeganElsewhere}
+use Rattle.pot_replies.specs.Sections.{Section, MovesThenRest, mine, IsSectionEmpty, IsOfJobs, IsSilent, work_of}
 use Rattle.pot_replies.specs.Sessions.{Step, One, Together, Answered, jobs_in}
 use Rattle.pot_shared.specs.Works.{Known, section_of}
 use Rattle.pot_commands.specs.declared.arriving.Unanswered.{Unanswered}
 use Rattle.pot_commands.specs.declared.arriving.Unanswered.TheVariants as unanswered
-use Rattle.pot_commands.specs.Rows.{IsSessionSetting, Row, IsIdle, IsSingle, IsWorked}
+use Rattle.pot_commands.specs.Rows.{IsSessionSetting, Row, IsIdleCommand, IsSingle, IsWorked}
 use Rattle.pot_shared.specs.Going.{AllOnlyWriters}
 
 -- a step of a script as a step of a session
@@ -44,17 +44,28 @@ IsWorkedStep groups (steps.One c) = IsWorked groups c
 IsWorkedStep groups (steps.Together lines) =
     (0 < length lines) × (length lines ≤ 1024) × AllByRecursion (IsBatched groups) lines
 
+-- a command that asks the room for an archive: `replace` and `migrate` do, and no other
+abbrev pub AsksArchive : Command → Type 0
+AsksArchive (commands.Replace from to) = Unit {0}
+AsksArchive (commands.Migrate from to) = Unit {0}
+AsksArchive c = ⊥
+
+-- a step that does, or one of whose lines does
+abbrev pub AsksRoom : Step Command → Type 0
+AsksRoom (One c) = AsksArchive c
+AsksRoom (Together lines) = (c : Command) × Contains lines c × AsksArchive c
+
 -- WITHOUT REPLIES
 
 -- A line of a batch without a reply. A `migrate` began no move, or began that of its column or
 -- found it begun; and its job logged nothing else.
 abbrev pub IsLineIdle : Setting → ℕ → Command → (w : Section) → MovesThenRest w → Type 0
 IsLineIdle s job (commands.Migrate from to) w h =
-    (BeganNone s w.before h.begun job from to
-    ⊎ ((g : ℕ) × (c : ℕ) × Begins s w.before h.begun job from to g c
+    (BeganNoMove s w.before h.begun job from to
+    ⊎ ((g : ℕ) × (c : ℕ) × BeginsMove s w.before h.begun job from to g c
     × BeganElsewhere s w.before h.begun job from to g))
     × IsSilent (mine job (work_of w h))
-IsLineIdle s job c w h = ((g : ℕ) → own job (h.begun g) ≡ []) × IsIdle s job c (work_of w h)
+IsLineIdle s job c w h = ((g : ℕ) → own job (h.begun g) ≡ []) × IsIdleCommand s job c (work_of w h)
 
 -- A line of a batch that ended early: it has a reply which was not written, or has none.
 abbrev pub IsLineLeft : Setting → ℕ → Command → (w : Section) → MovesThenRest w → Type 0
@@ -68,15 +79,16 @@ AreLinesLeft s job (c ∷ cs) w h = IsLineLeft s job c w h × AreLinesLeft s (su
 -- for want of memory
 abbrev pub IsStepLeft : Setting → ℕ → Step Command → Section → Type 0
 IsStepLeft s job (One c) w =
-    IsIdle s job c w ⊎ ((rs : List Reply) × (h : MovesThenRest w) × Row s job c rs w h)
+    IsIdleCommand s job c w ⊎ ((rs : List Reply) × (h : MovesThenRest w) × Row s job c rs w h)
 IsStepLeft s job (Together lines) w = (h : MovesThenRest w) × AreLinesLeft s job lines w h
 
--- a step at which the room failed: of a batch no line was worked, and all that was logged are the
--- moves that began
+-- a step at which the room failed, which asked it for an archive: of a batch no line was worked,
+-- and all that was logged are the moves that began
 abbrev pub IsStepHalted : Setting → ℕ → Step Command → Section → Type 0
-IsStepHalted s job (One c) w = IsIdle s job c w
+IsStepHalted s job (One c) w = AsksRoom (One c) × IsIdleCommand s job c w
 IsStepHalted s job (Together lines) w =
-    (h : MovesThenRest w) × AreLinesLeft s job lines w h × IsEmpty (work_of w h)
+    AsksRoom (Together lines)
+    × ((h : MovesThenRest w) × AreLinesLeft s job lines w h × IsSectionEmpty (work_of w h))
 
 -- WHERE NOBODY ELSE LOGGED ANYTHING
 

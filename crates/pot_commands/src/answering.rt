@@ -15,10 +15,11 @@ ghost use Rattle.pot_mend.specs.Repairs.{RepairRow};
 ghost use Rattle.pot_commands.specs.Blinding.{HasBlinds};
 ghost use Rattle.pot_shared.specs.Callers.{CanCall};
 ghost use Rattle.pot_commands.specs.Sharing.{common_of};
-ghost use Rattle.pot_commands.specs.Failures.{Fails};
+ghost use Rattle.pot_commands.specs.Failures.{FailsOwn};
 ghost use Rattle.pot_commands.specs.Rows.{HasFilled, IsSessionSetting, IsStoreReply, IsFetchReply};
 ghost use Rattle.pot_commands.specs.Rows.{IsRenewReply, IsUnrenewed, IsScrubReply, IsRepairReply};
-ghost use Rattle.pot_commands.specs.Rows.{AreReplies, IsIdle, IsPlain, IsSingle, IsWorked};
+ghost use Rattle.pot_commands.specs.Rows.{AreReplies, IsIdleCommand, IsPlain, IsSingle, IsWorked};
+ghost use Rattle.pot_commands.specs.Steps.{AsksArchive};
 ghost use Rattle.pot_commands.specs.Taking.{AreUsed, Took, asks};
 
 use crate::arriving::{Unanswered, replace_archive};
@@ -199,7 +200,7 @@ pub(crate) fn answer_one<A: Archive, X: Wait>(
         JobOnlyWriter job old new → (s : Setting)
         → IsSessionSetting s shared.now.vault.now.rack shared.now.seed.now shared.now.session old
         → MatchResult result (λ reply. AreReplies s job command.now (reply ∷ []) w)
-        (λ e. IsIdle s job command.now w) }
+        (λ e. IsIdleCommand s job command.now w) }
 {
     let Shared {
         rt,
@@ -268,7 +269,7 @@ fn answer_plain<A: Archive, X: Wait>(
         JobOnlyWriter job old new → (s : Setting)
         → IsSessionSetting s shared.now.vault.now.rack shared.now.seed.now shared.now.session old
         → MatchResult result (λ replies. AreReplies s job command.now replies.items w)
-        (λ e. IsIdle s job command.now w) }
+        (λ e. IsIdleCommand s job command.now w) }
 {
     match command {
         Command::Status => count_groups(shared, passes, job),
@@ -309,7 +310,8 @@ pub(crate) fn answer<R: Room, X: Wait>(
         JobOnlyWriter job old new → (s : Setting)
         → IsSessionSetting s shared.now.vault.now.rack shared.now.seed.now shared.now.session old
         → MatchResult result (λ replies. AreReplies s job command.now replies.items w)
-        (λ e. IsIdle s job command.now w) }
+        (λ e. IsIdleCommand s job command.now w) }
+    ensures asked { IsErrOf result Unanswered.RoomFailed → AsksArchive command.now }
     ensures used { AreUsed (R.meaning room.new) passes.new.groups }
     ensures took { Took (IsTrue R.A.account.tells) (result ≢ Err Unanswered.RoomFailed)
         (asks command.now)
@@ -317,7 +319,7 @@ pub(crate) fn answer<R: Room, X: Wait>(
         passes.old passes.new }
     ensures cause { Caused (R.meaning room.old).faults (R.meaning room.new).faults
         (IsErrOf result Unanswered.RoomFailed) }
-    ensures own { Fails (R.meaning room.old).failures (R.meaning room.new).failures
+    ensures own { FailsOwn (R.meaning room.old).failures (R.meaning room.new).failures
         (IsErrOf result Unanswered.RoomFailed) }
 {
     match command {

@@ -8,7 +8,7 @@ ghost use Rattle.pot_replies.specs.Settings.{Setting};
 ghost use Rattle.pot_replies.specs.Sections.{mine, IsOfJobs, IsSilent};
 ghost use Rattle.pot_shared.specs.Works.{JobWroteOnly, JobOnlyWriter, IsSettingOf, section_of};
 ghost use Rattle.pot_shared.specs.Callers.{CanCall};
-ghost use Rattle.pot_commands.specs.Failures.{Fails};
+ghost use Rattle.pot_commands.specs.Failures.{FailsOwn};
 ghost use Rattle.pot_commands.specs.Arriving.{HandsBack, use_reply};
 ghost use Rattle.pot_commands.specs.Rows.{IsReplaceReply};
 ghost use Rattle.pot_commands.specs.Taking.{AreUsed, Took};
@@ -60,7 +60,7 @@ pub(crate) fn replace_archive<R: Room, X: Wait>(
         passes.old passes.new }
     ensures cause { Caused (R.meaning room.old).faults (R.meaning room.new).faults
         (IsErrOf result Unanswered.RoomFailed) }
-    ensures own { Fails (R.meaning room.old).failures (R.meaning room.new).failures
+    ensures own { FailsOwn (R.meaning room.old).failures (R.meaning room.new).failures
         (IsErrOf result Unanswered.RoomFailed) }
 {
     let Shared { rt, vault, .. } = *shared;
@@ -104,7 +104,7 @@ pub(crate) fn take_shelf<R: Room>(room: &mut R, number: u32) -> Result<Shelf<R::
     ensures others { (n : ℕ) → n ≢ number → StaysAt (R.meaning room.old) (R.meaning room.new) n }
     ensures cause { Caused (R.meaning room.old).faults (R.meaning room.new).faults
         (IsErrOf result Unanswered.RoomFailed) }
-    ensures own { Fails (R.meaning room.old).failures (R.meaning room.new).failures
+    ensures own { FailsOwn (R.meaning room.old).failures (R.meaning room.new).failures
         (IsErrOf result Unanswered.RoomFailed) }
 {
     match room.take(number) {
@@ -134,7 +134,7 @@ pub(crate) fn hand_back<R: Room>(
     ensures answer { HandsBack group refused.cause result }
     ensures cause { Caused (R.meaning room.old).faults (R.meaning room.new).faults
         (IsErrOf result Unanswered.RoomFailed) }
-    ensures own { Fails (R.meaning room.old).failures (R.meaning room.new).failures
+    ensures own { FailsOwn (R.meaning room.old).failures (R.meaning room.new).failures
         (IsErrOf result Unanswered.RoomFailed) }
 {
     let ShelfRefused { shelf, cause } = refused;

@@ -14,13 +14,13 @@ ghost use Rattle.pot_shared.specs.Works.{Known};
 ghost use Rattle.pot_work.specs.Works.{AreWorked};
 ghost use Rattle.pot_commands.specs.Rows.{HasFilled};
 ghost use Rattle.pot_shared.specs.Going.{AllExtend, AllStay};
-ghost use Rattle.pot_commands.specs.Failures.{Fails};
+ghost use Rattle.pot_commands.specs.Failures.{FailsOwn};
 ghost use Rattle.pot_commands.specs.Steps.{IsBatched, StepGives, StepLeaves, StepStops};
 ghost use Rattle.pot_commands.specs.Begun.{HaveTasks, AreMovesBegun};
 ghost use Rattle.pot_shared.specs.Callers.{CanCall, HaveParts};
 ghost use Rattle.pot_commands.specs.Sharing.{common_of};
 ghost use Rattle.pot_commands.specs.Blinding.{AreJobsBlinded};
-ghost use Rattle.pot_commands.specs.Jobs.{JobView, HasPasses, IsDone, Did};
+ghost use Rattle.pot_commands.specs.Jobs.{JobView, HasPasses, IsJobDone, Did};
 ghost use Rattle.pot_commands.specs.Jobs.{AreShared, AllJoined, all_replied, replies_in, tasks_in};
 ghost use Rattle.pot_commands.specs.Batches.{BringsNone};
 ghost use Rattle.pot_commands.specs.Taking.{AreUsed, Took, asks};
@@ -100,7 +100,7 @@ fn work_lines<'a, A: Archive + Send, W: Gate, X: Threads + Wait + Sync>(
         MatchResult result
         (λ back. (js : List JobView) × AreShared b old job lines.now js new
         × (tasks_in js ≡ tasks.items)
-        × AreWorked IsDone Did js back.items)
+        × AreWorked IsJobDone Did js back.items)
         (λ r. AreShared b old job (take (length r.jobs.items) lines.now) r.jobs.items new) }
 {
     let shared = &crew.shared;
@@ -223,7 +223,7 @@ pub(crate) fn answer_together<R: Room, W: Gate, X: Threads + Wait + Sync>(
         passes.old passes.new }
     ensures cause { Caused (R.meaning room.old).faults (R.meaning room.new).faults
         (IsErrOf result Unanswered.RoomFailed) }
-    ensures own { Fails (R.meaning room.old).failures (R.meaning room.new).failures
+    ensures own { FailsOwn (R.meaning room.old).failures (R.meaning room.new).failures
         (IsErrOf result Unanswered.RoomFailed) }
 {
     let tasks = match begin_lines(&crew.shared, passes, job, lines, room) {

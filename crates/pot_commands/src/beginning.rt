@@ -5,12 +5,13 @@ ghost use Rattle.std.specs.List.{AllByRecursion};
 ghost use Rattle.pot_outside.specs.Counts.{Caused};
 ghost use Rattle.pot_replies.specs.Settings.{Setting};
 ghost use Rattle.pot_replies.specs.Sections.{mine, IsOfJobs, IsSilent};
+ghost use Rattle.pot_replies.specs.Sessions.{Together};
 ghost use Rattle.pot_shared.specs.Works.{JobWroteOnly, JobOnlyWriter, IsSettingOf, section_of};
 ghost use Rattle.pot_shared.specs.Callers.{CanCall};
 ghost use Rattle.pot_commands.specs.declared.beginning.Task.{Task};
 ghost use Rattle.pot_commands.specs.Begun.{HasTask, HaveTasks, LineBegins, AreMovesBegun};
-ghost use Rattle.pot_commands.specs.Failures.{Fails};
-ghost use Rattle.pot_commands.specs.Steps.{IsBatched};
+ghost use Rattle.pot_commands.specs.Failures.{FailsOwn};
+ghost use Rattle.pot_commands.specs.Steps.{AsksArchive, AsksRoom, IsBatched};
 ghost use Rattle.pot_commands.specs.Taking.{AreUsed, Took, asks};
 
 use crate::arriving::Unanswered;
@@ -58,6 +59,7 @@ pub(crate) fn begin_lines<R: Room, X: Wait>(
         let rack = shared.now.vault.now.rack in
         MatchResult result (λ tasks. AreMovesBegun rack job lines.now tasks.items old new)
         (λ e. (ts : List Task) × AreMovesBegun rack job lines.now ts old new) }
+    ensures asked { IsErrOf result Unanswered.RoomFailed → AsksRoom (Together lines.now) }
     ensures used { AreUsed (R.meaning room.new) passes.new.groups }
     ensures took { Took (IsTrue R.A.account.tells) (result ≢ Err Unanswered.RoomFailed)
         (flat_map asks lines.now)
@@ -65,7 +67,7 @@ pub(crate) fn begin_lines<R: Room, X: Wait>(
         passes.old passes.new }
     ensures cause { Caused (R.meaning room.old).faults (R.meaning room.new).faults
         (IsErrOf result Unanswered.RoomFailed) }
-    ensures own { Fails (R.meaning room.old).failures (R.meaning room.new).failures
+    ensures own { FailsOwn (R.meaning room.old).failures (R.meaning room.new).failures
         (IsErrOf result Unanswered.RoomFailed) }
 {
     let Ok(mut tasks) = Vec::with_capacity(shared.alloc, lines.len()) else {
@@ -105,6 +107,7 @@ fn begin_line<R: Room, X: Wait>(
         → MatchResult result (λ t. IsOfJobs job 1 (section_of old new)
         → LineBegins s job line.now t (section_of old new))
         (λ e. IsSilent (mine job (section_of old new))) }
+    ensures asked { IsErrOf result Unanswered.RoomFailed → AsksArchive line.now }
     ensures used { AreUsed (R.meaning room.new) passes.new.groups }
     ensures took { Took (IsTrue R.A.account.tells) (result ≢ Err Unanswered.RoomFailed)
         (asks line.now)
@@ -112,7 +115,7 @@ fn begin_line<R: Room, X: Wait>(
         passes.old passes.new }
     ensures cause { Caused (R.meaning room.old).faults (R.meaning room.new).faults
         (IsErrOf result Unanswered.RoomFailed) }
-    ensures own { Fails (R.meaning room.old).failures (R.meaning room.new).failures
+    ensures own { FailsOwn (R.meaning room.old).failures (R.meaning room.new).failures
         (IsErrOf result Unanswered.RoomFailed) }
 {
     match line {

@@ -2,7 +2,7 @@
 ghost use Rattle.std.specs.Prelude.{◌≡◌, ◌<◌, ◌^◌, IfOk, IfErr, Some};
 ghost use Rattle.pot_rows.specs.Rows.{HasMoreParts};
 ghost use Rattle.pot_rows.specs.Parts.{RowCut};
-ghost use Rattle.pot_shared.specs.Sharing.{SameAt};
+ghost use Rattle.pot_shared.specs.Sharing.{SamePasses};
 ghost use Rattle.pot_replies.specs.Settings.{Setting};
 ghost use Rattle.pot_shared.specs.Works.{JobWroteOnly, JobOnlyWriter, section_of};
 ghost use Rattle.pot_commands.specs.Begun.{HasTask};
@@ -10,7 +10,7 @@ ghost use Rattle.pot_commands.specs.Blinding.{HasBlinds};
 ghost use Rattle.pot_commands.specs.Rows.{IsSessionSetting};
 ghost use Rattle.pot_shared.specs.Callers.{CanCall, HaveParts};
 ghost use Rattle.pot_commands.specs.Sharing.{common_of};
-ghost use Rattle.pot_commands.specs.Jobs.{IsGiven, Says};
+ghost use Rattle.pot_commands.specs.Jobs.{IsJobGiven, Says};
 
 use crate::answering::answer_one;
 use crate::beginning::Task;
@@ -54,9 +54,9 @@ impl<'a, A: Archive, R> Model for LineJob<'a, A, R> {
 }
 
 impl<'a, A: Archive, R: Wait> Job for LineJob<'a, A, R> {
-    ghost use Rattle.pot_commands.specs.Jobs.{IsDone, Did};
+    ghost use Rattle.pot_commands.specs.Jobs.{IsJobDone, Did};
 
-    ghost done = { IsDone };
+    ghost done = { IsJobDone };
 
     ghost related = { Did };
 
@@ -162,12 +162,12 @@ pub(crate) fn give_line<'a, A: Archive, X>(
     requires fits { HasTask shared.now.vault.now.rack line.now task }
     ensures can { CanCall shared.now.vault.now passes.new }
     ensures given { IfOk result (λ j.
-        IsGiven (common_of shared.now) passes.old job line.now j) }
+        IsJobGiven (common_of shared.now) passes.old job line.now j) }
     ensures task { IfOk result (λ j. j.task ≡ task) }
     ensures left { IfOk result (λ _. RowCut 2 passes.old.groups passes.new.groups
         × RowCut 2 passes.old.index passes.new.index) }
-    ensures refused { IfErr result (λ _. SameAt passes.old.groups passes.new.groups
-        × SameAt passes.old.index passes.new.index) }
+    ensures refused { IfErr result (λ _. SamePasses passes.old.groups passes.new.groups
+        × SamePasses passes.old.index passes.new.index) }
 {
     match shared.vault.split(shared.alloc, passes, 2) {
         Ok(given) => Ok(LineJob {

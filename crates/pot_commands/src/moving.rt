@@ -6,7 +6,7 @@ ghost use Rattle.pot_replies.specs.Settings.{Setting};
 ghost use Rattle.pot_replies.specs.Sections.{mine, work_of, MovesThenRest, IsOfJobs, IsSilent};
 ghost use Rattle.pot_shared.specs.Works.{JobWroteOnly, JobOnlyWriter, IsSettingOf, section_of};
 ghost use Rattle.pot_shared.specs.Callers.{CanCall};
-ghost use Rattle.pot_commands.specs.Failures.{Fails};
+ghost use Rattle.pot_commands.specs.Failures.{FailsOwn};
 ghost use Rattle.pot_commands.specs.Arriving.{HasBegun, Unbegins, move_reply};
 ghost use Rattle.pot_commands.specs.Rows.{IsMigrateReply};
 ghost use Rattle.pot_commands.specs.Taking.{AreUsed, Took};
@@ -51,7 +51,7 @@ pub(crate) fn migrate_archive<R: Room, X: Wait>(
         passes.old passes.new }
     ensures cause { Caused (R.meaning room.old).faults (R.meaning room.new).faults
         (IsErrOf result Unanswered.RoomFailed) }
-    ensures own { Fails (R.meaning room.old).failures (R.meaning room.new).failures
+    ensures own { FailsOwn (R.meaning room.old).failures (R.meaning room.new).failures
         (IsErrOf result Unanswered.RoomFailed) }
 {
     let at = match begin_move(shared, passes, job, from, to, room) {
@@ -97,7 +97,7 @@ pub(crate) fn begin_move<R: Room, X: Wait>(
         passes.old passes.new }
     ensures cause { Caused (R.meaning room.old).faults (R.meaning room.new).faults
         (IsErrOf result (Err Unanswered.RoomFailed)) }
-    ensures own { Fails (R.meaning room.old).failures (R.meaning room.new).failures
+    ensures own { FailsOwn (R.meaning room.old).failures (R.meaning room.new).failures
         (IsErrOf result (Err Unanswered.RoomFailed)) }
 {
     let Shared { rt, vault, .. } = *shared;

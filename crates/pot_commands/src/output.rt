@@ -2,7 +2,7 @@
 ghost use Rattle.std.specs.Prelude.{◌≡◌, IsErr, IfOk};
 ghost use Rattle.pot_outside.specs.Accounts.{Faults, transition};
 ghost use Rattle.pot_commands.specs.Ends.{texts_of, any_refusal};
-ghost use Rattle.pot_commands.specs.Streams.{Writes};
+ghost use Rattle.pot_commands.specs.Streams.{WritesText};
 
 use pot_bytes::NoMemory;
 use pot_outside::{Failed, Sink};
@@ -15,7 +15,7 @@ use std::alloc::Global;
 /// `Failed` only where the sink's count of faults rose; some first bytes of the text were written
 /// then.
 pub fn write_out<K: Sink>(sink: &mut K, text: &[u8]) -> Result<(), Failed>
-    ensures told { Writes (transition K.account sink.old sink.new) text.now result }
+    ensures told { WritesText (transition K.account sink.old sink.new) text.now result }
     ensures cause { Faults K.account sink.old sink.new (IsErr result) }
 {
     let mut rest = text;

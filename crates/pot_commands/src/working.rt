@@ -8,7 +8,7 @@ ghost use Rattle.pot_replies.specs.Sessions.{jobs_in};
 ghost use Rattle.pot_shared.specs.Callers.{CanCall, HaveParts};
 ghost use Rattle.pot_commands.specs.Sharing.{common_of};
 ghost use Rattle.pot_commands.specs.Blinding.{AreJobsBlinded};
-ghost use Rattle.pot_commands.specs.Failures.{Fails};
+ghost use Rattle.pot_commands.specs.Failures.{FailsOwn};
 ghost use Rattle.pot_commands.specs.Rows.{HasFilled};
 ghost use Rattle.pot_commands.specs.Ones.{OneEnds};
 ghost use Rattle.pot_shared.specs.Going.{AllExtend, AllStay};
@@ -70,7 +70,7 @@ fn answer_step<R: Room, W: Gate, X: Threads + Wait + Sync>(
         passes.old passes.new }
     ensures cause { Caused (R.meaning room.old).faults (R.meaning room.new).faults
         (IsErrOf result Unanswered.RoomFailed) }
-    ensures own { Fails (R.meaning room.old).failures (R.meaning room.new).failures
+    ensures own { FailsOwn (R.meaning room.old).failures (R.meaning room.new).failures
         (IsErrOf result Unanswered.RoomFailed) }
 {
     match step {
@@ -113,7 +113,7 @@ fn work_one<K: Sink, R: Room, W: Gate, X: Threads + Wait + Sync>(
         (IsErrOf result Ending.SinkFailed) }
     ensures room { Caused (R.meaning room.old).faults (R.meaning room.new).faults
         (IsErrOf result Ending.RoomFailed) }
-    ensures own { Fails (R.meaning room.old).failures (R.meaning room.new).failures
+    ensures own { FailsOwn (R.meaning room.old).failures (R.meaning room.new).failures
         (IsErrOf result Ending.RoomFailed) }
 {
     let answered = answer_step(crew, passes, job, step, room);
@@ -177,7 +177,7 @@ pub fn work<K: Sink, R: Room, W: Gate, X: Threads + Wait + Sync>(
     ensures sink { Faults K.account sink.old sink.new (result ≡ Ending.SinkFailed) }
     ensures room { Caused (R.meaning room.old).faults (R.meaning room.new).faults
         (result ≡ Ending.RoomFailed) }
-    ensures own { Fails (R.meaning room.old).failures (R.meaning room.new).failures
+    ensures own { FailsOwn (R.meaning room.old).failures (R.meaning room.new).failures
         (result ≡ Ending.RoomFailed) }
 {
     let mut refused = false;

@@ -11,8 +11,8 @@ use Rattle.std.proofs.lemmas.Map.Made.{is_member-Decides, length-le_from_is_memb
 use Rattle.std.proofs.lemmas.Option.{get_or_from_slice_get, same_Some, slice_get-get_or, slice_get_within}
 use Rattle.pot_bytes.proofs.Elements.{contains_back, contains_front, contains_later, none_contained, one_contained}
 use Rattle.pot_split.proofs.ThresholdLaws.{one_row_more}
-use Rattle.pot_desk_shares.specs.Finding.{AreFound, AreRows, HasHead, IsAt, IsComplete, IsLatest, IsNewer, IsOfComplete, IsThere}
-use Rattle.pot_desk_shares.specs.Joins.{at_point, point_of, points_of, AreApart, AreEnough, IsHeld, IsNewest}
+use Rattle.pot_desk_shares.specs.Finding.{AreFound, AreRows, HasHead, IsShareAt, IsComplete, IsLatest, IsNewer, IsOfComplete, IsThere}
+use Rattle.pot_desk_shares.specs.Joins.{at_point, point_of, points_of, AreAtDistinctPoints, AreEnoughShares, IsShareHeld, IsNewest}
 use Rattle.pot_desk_shares.specs.declared.share.DeskShare.{DeskShare}
 use Rattle.pot_desk_shares.specs.declared.share.ShareHead.{ShareHead}
 
@@ -52,7 +52,7 @@ in_either (x ∷ xs) y z (suc k, lt, is) = elim (in_either xs y z (k, omega (ari
 ]
 
 -- the points of shares that are held
-pub point_bounds : (shares : List DeskShare) (h : ShareHead) (s : DeskShare) → IsHeld shares h s → (1 ≤ s.head.point) × (s.head.point < 17)
+pub point_bounds : (shares : List DeskShare) (h : ShareHead) (s : DeskShare) → IsShareHeld shares h s → (1 ≤ s.head.point) × (s.head.point < 17)
 point_bounds shares h s held =
     let ok = held.whole.head in
     (ok.point_first, omega (arith, ok.point_last, ok.count))
@@ -114,12 +114,12 @@ found_end shares h n points f past = record {
   all = λ less x first below there. f.all less x first (omega (arith, below, past)) there;
 }
 
-pub there_of : (shares : List DeskShare) (h : ShareHead) (x : ℕ) (r : Option ℕ) → MatchOption r (¬ IsThere shares h x) (λ at. IsAt shares h x at)
+pub there_of : (shares : List DeskShare) (h : ShareHead) (x : ℕ) (r : Option ℕ) → MatchOption r (¬ IsThere shares h x) (λ at. IsShareAt shares h x at)
     → true ≡ is_some r → IsThere shares h x
 there_of shares h x None none e = absurd (cc)
 there_of shares h x (Some at) found e = (found.0, found.2, found.3)
 
-pub none_of : (shares : List DeskShare) (h : ShareHead) (x : ℕ) (r : Option ℕ) → MatchOption r (¬ IsThere shares h x) (λ at. IsAt shares h x at)
+pub none_of : (shares : List DeskShare) (h : ShareHead) (x : ℕ) (r : Option ℕ) → MatchOption r (¬ IsThere shares h x) (λ at. IsShareAt shares h x at)
     → false ≡ is_some r → ¬ IsThere shares h x
 none_of shares h x None none e = none
 none_of shares h x (Some at) found e = absurd (cc)
@@ -128,18 +128,18 @@ none_of shares h x (Some at) found e = absurd (cc)
 
 -- at each point a share
 pub chosen_at : (shares : List DeskShare) (h : ShareHead) (points : List ℕ) → ((x : ℕ) → Contains points x → IsThere shares h x)
-    → (chosen : List DeskShare) × (points_of chosen ≡ points) × ((s : DeskShare) → Contains chosen s → IsHeld shares h s)
+    → (chosen : List DeskShare) × (points_of chosen ≡ points) × ((s : DeskShare) → Contains chosen s → IsShareHeld shares h s)
 chosen_at shares h [] each = ([], refl, λ s c. absurd (none_contained s c))
 chosen_at shares h (x ∷ points) each =
     let first = each x (0, omega arith, refl) in
     let rest = chosen_at shares h points (λ y c. each y (contains_later x y points c)) in
     let s = first.0 in
-    let held : (t : DeskShare) → Contains (s ∷ rest.0) t → IsHeld shares h t = held_more shares h s rest.0 first.1 rest.2 in
+    let held : (t : DeskShare) → Contains (s ∷ rest.0) t → IsShareHeld shares h t = held_more shares h s rest.0 first.1 rest.2 in
     (s ∷ rest.0, ap₂ (λ (a : ℕ) (b : List ℕ). a ∷ b) first.2 rest.1, held)
   where
-    held_more : (shares : List DeskShare) (h : ShareHead) (s : DeskShare) (chosen : List DeskShare) → IsHeld shares h s
-        → ((t : DeskShare) → Contains chosen t → IsHeld shares h t) → (t : DeskShare) → Contains (s ∷ chosen) t → IsHeld shares h t
-    held_more shares h s chosen first each t (zero, lt, is) = subst (IsHeld shares h) is first
+    held_more : (shares : List DeskShare) (h : ShareHead) (s : DeskShare) (chosen : List DeskShare) → IsShareHeld shares h s
+        → ((t : DeskShare) → Contains chosen t → IsShareHeld shares h t) → (t : DeskShare) → Contains (s ∷ chosen) t → IsShareHeld shares h t
+    held_more shares h s chosen first each t (zero, lt, is) = subst (IsShareHeld shares h) is first
     held_more shares h s chosen first each t (suc k, lt, is) = each t (k, omega (arith, lt), is)
 
 -- a point of some shares is that of one of them
@@ -152,7 +152,7 @@ of_some (s ∷ chosen) x (suc k, lt, is) =
 
 -- where fewer points than are needed are found, no more shares are there
 pub all_found : (shares : List DeskShare) (h : ShareHead) (points : List ℕ) (chosen : List DeskShare) → AreFound shares h 17 points
-    → length points < h.need → AreApart shares h chosen → length chosen ≤ length points
+    → length points < h.need → AreAtDistinctPoints shares h chosen → length chosen ≤ length points
 all_found shares h points chosen f less apart =
     let within : (x : ℕ) → Contains (points_of chosen) x → Contains points x =
     λ x c.
@@ -164,7 +164,7 @@ all_found shares h points chosen f less apart =
 
 -- the shares at the points that are found
 pub apart_at : (shares : List DeskShare) (h : ShareHead) (points : List ℕ) → AreFound shares h 17 points
-    → (chosen : List DeskShare) × AreApart shares h chosen × (length chosen ≡ length points)
+    → (chosen : List DeskShare) × AreAtDistinctPoints shares h chosen × (length chosen ≡ length points)
 apart_at shares h points f =
     let c = chosen_at shares h points f.each in (
       c.0,
@@ -188,14 +188,14 @@ points_of_complete shares h points f complete =
     ]
 
 -- a complete set is that of one of its shares
-pub one_of_complete : (shares : List DeskShare) (h : ShareHead) (chosen : List DeskShare) → AreEnough shares h chosen
-    → (s : DeskShare) × Contains chosen s × IsHeld shares h s
+pub one_of_complete : (shares : List DeskShare) (h : ShareHead) (chosen : List DeskShare) → AreEnoughShares shares h chosen
+    → (s : DeskShare) × Contains chosen s × IsShareHeld shares h s
 one_of_complete shares h [] e = absurd (omega (arith, e.some, e.enough))
 one_of_complete shares h (s ∷ chosen) e = (s, (0, omega arith, refl), e.apart.each s (0, omega arith, refl))
 
 -- the set of a share's head is the set
-pub same_set : (shares : List DeskShare) (h : ShareHead) (s : DeskShare) (chosen : List DeskShare) → IsHeld shares h s
-    → AreEnough shares h chosen → AreEnough shares s.head chosen
+pub same_set : (shares : List DeskShare) (h : ShareHead) (s : DeskShare) (chosen : List DeskShare) → IsShareHeld shares h s
+    → AreEnoughShares shares h chosen → AreEnoughShares shares s.head chosen
 same_set shares h s chosen held e = record {
   some = omega (arith, e.some, ap (λ (z : ShareHead). z.need) held.set);
   enough = e.enough ∙ sym (ap (λ (z : ShareHead). z.need) held.set);
@@ -224,7 +224,7 @@ length-values long (s ∷ chosen) each =
 pub found_share : (shares : List DeskShare) (h : ShareHead) (x : ℕ) (r : Option ℕ)
     → MatchOption r ((at : ℕ) (s : DeskShare) → at < length shares → ¬ HasHead shares (at_point h x) at s)
     (λ at. (s : DeskShare) × HasHead shares (at_point h x) at s)
-    → MatchOption r (¬ IsThere shares h x) (λ at. IsAt shares h x at)
+    → MatchOption r (¬ IsThere shares h x) (λ at. IsShareAt shares h x at)
 found_share shares h x None none =
     λ t.
     let at = place_in shares t.0 t.1.there in
@@ -363,14 +363,14 @@ none_of_latest shares none h complete =
 
 -- the shares at the next point
 pub rows_more : (shares : List DeskShare) (h : ShareHead) (chosen : List DeskShare) (points values new : List ℕ) (i : ℕ) (s : DeskShare)
-    → AreRows shares h chosen (take i points) values → i < length points → IsHeld shares h s → s.head.point ≡ get_or points i 0
+    → AreRows shares h chosen (take i points) values → i < length points → IsShareHeld shares h s → s.head.point ≡ get_or points i 0
     → new ≡ values ++ s.body.now → AreRows shares h (chosen ++ s ∷ []) (take (i + 1) points) new
 rows_more shares h chosen points values new i s r inside held here e = record {
   stand = map-append point_of chosen (s ∷ []) ∙ ap₂ (λ (a : List ℕ) (b : ℕ). a ++ b ∷ []) r.stand here ∙ sym (take_more points i 0 inside);
   rows = flat_map-append (λ (t : DeskShare). t.body.now) chosen (s ∷ []) ∙ ap₂ (λ (a b : List ℕ). a ++ b) r.rows (append-nil s.body.now) ∙ sym e;
   each = λ t c. elim (in_either chosen s t c) [
     | inl old ↦ r.each t old
-    | inr same ↦ subst (IsHeld shares h) same held
+    | inr same ↦ subst (IsShareHeld shares h) same held
   ];
 }
 
@@ -383,7 +383,7 @@ pub record AreReady (shares : List DeskShare) (h : ShareHead) (chosen : List Des
   pub not_zero : All (λ x. 0 < x) points
   pub long : length values ≡ length points * (h.length + 32)
   pub fits : h.length ≤ 1073741824
-  pub enough : AreEnough shares h chosen
+  pub enough : AreEnoughShares shares h chosen
 
 pub fits_of : (shares : List DeskShare) (h : ShareHead) → IsComplete shares h → h.length ≤ 1073741824
 fits_of shares h complete =

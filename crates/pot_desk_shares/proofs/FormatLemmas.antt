@@ -9,7 +9,7 @@ use Rattle.pot_bytes.specs.Lists.{AreBytes}
 use Rattle.pot_bytes.proofs.DigestLemmas.{length-digest_bytes}
 use Rattle.pot_bytes.proofs.ListLemmas.{AreBytes-drop}
 use Rattle.pot_object.proofs.NumberLemmas.{big_bytes_8}
-use Rattle.pot_desk_shares.specs.Shares.{body_of, head_at, head_bytes, magic, share_bytes, with_digest, IsFramed, IsHead, IsShare}
+use Rattle.pot_desk_shares.specs.Shares.{body_of, head_at, head_bytes, magic, share_bytes, with_digest, HasShareFrame, IsShareHead, IsShare}
 use Rattle.pot_desk_shares.specs.declared.share.ShareHead.{ShareHead}
 
 unfoldable pub made : ℕ → ℕ → ℕ → ℕ → ℕ → ℕ → ShareHead
@@ -17,7 +17,7 @@ made need count point generation set long =
     record { need = need; count = count; point = point; generation = generation; set = set; length = long }
 
 -- the head that was written is read again
-pub head_at-head_bytes : (h : ShareHead) (rest : List ℕ) → IsHead h → head_at (head_bytes h ++ rest) ≡ h
+pub head_at-head_bytes : (h : ShareHead) (rest : List ℕ) → IsShareHead h → head_at (head_bytes h ++ rest) ≡ h
 unfolding head_bytes made
 head_at-head_bytes h rest ok =
     let generation : big_number 8 (big_bytes 8 h.generation ++ (big_bytes 8 h.set ++ (big_bytes 8 h.length ++ rest))) ≡ h.generation =
@@ -104,7 +104,7 @@ front_of bytes long =
     let n : length bytes - 32 ≡ 32 + (length bytes - 64) = omega arith in
     ap (λ (z : ℕ). take z bytes) n ∙ take-add 32 (length bytes - 64) bytes
 
-pub framed-share : (h : ShareHead) (body bytes : List ℕ) → IsShare h body bytes → IsFramed bytes
+pub framed-share : (h : ShareHead) (body bytes : List ℕ) → IsShare h body bytes → HasShareFrame bytes
 unfolding share_bytes
 framed-share h body bytes is =
     let front = head_bytes h ++ body in
@@ -117,8 +117,8 @@ framed-share h body bytes is =
     )
 
 -- bytes of these parts are a share
-pub IsShare-from_parts : (bytes : List ℕ) → AreBytes bytes → 64 ≤ length bytes → IsHead (head_at bytes)
-    → length (body_of bytes) ≡ (head_at bytes).length + 32 → IsFramed bytes → IsShare (head_at bytes) (body_of bytes) bytes
+pub IsShare-from_parts : (bytes : List ℕ) → AreBytes bytes → 64 ≤ length bytes → IsShareHead (head_at bytes)
+    → length (body_of bytes) ≡ (head_at bytes).length + 32 → HasShareFrame bytes → IsShare (head_at bytes) (body_of bytes) bytes
 unfolding share_bytes
 IsShare-from_parts bytes small long ok whole framed =
     let n = length bytes - 32 in

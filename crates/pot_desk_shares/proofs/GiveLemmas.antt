@@ -7,7 +7,7 @@ use Rattle.pot_bytes.proofs.Elements.{contains_later}
 use Rattle.pot_split.specs.Threshold.{IsJoin}
 use Rattle.std.proofs.lemmas.Bool.{cases_lt}
 use Rattle.pot_desk_shares.specs.Finding.{AreFound, AreRows, IsComplete, IsLatest}
-use Rattle.pot_desk_shares.specs.Joins.{at_point, point_of, points_of, AreJoined, GivesBack, IsFault, IsGiven, IsHeld, IsNewest, IsWhole, StandsIn}
+use Rattle.pot_desk_shares.specs.Joins.{at_point, point_of, points_of, AreSharesJoined, GivesTextBack, IsJoinFault, IsTextGiven, IsShareHeld, IsNewest, IsShareWhole, SetStandsIn}
 use Rattle.pot_desk_shares.specs.Making.{head_of, values_at}
 use Rattle.pot_desk_shares.specs.Shares.{with_digest}
 use Rattle.pot_desk_shares.specs.declared.joining.JoinFault.{JoinFault}
@@ -37,7 +37,7 @@ set_of h g x y e = ap (λ (z : ShareHead). at_point z 0) e
 
 -- what enough shares of the newest set are joined to is the text with its digest
 pub joined_to : (shares : List DeskShare) (t : Terms) (text random : List ℕ) (h : ShareHead) (chosen : List DeskShare) (joined : List ℕ)
-    → StandsIn shares t text random → AreJoined shares h chosen joined → joined ≡ with_digest text
+    → SetStandsIn shares t text random → AreSharesJoined shares h chosen joined → joined ≡ with_digest text
 joined_to shares t text random h chosen joined stands j =
     let own_head = head_of t text random 0 in
     let newest : t.generation ≤ h.generation = j.newest own_head stands.enough.0 stands.enough.1 in
@@ -47,7 +47,7 @@ joined_to shares t text random h chosen joined stands j =
     ] in
     let need : h.need ≡ t.need = ap (λ (z : ShareHead). z.need) set in
     let long : h.length ≡ length text = ap (λ (z : ShareHead). z.length) set in
-    let held : (s : DeskShare) → Contains chosen s → IsHeld shares own_head s =
+    let held : (s : DeskShare) → Contains chosen s → IsShareHeld shares own_head s =
     λ s c. let u = j.enough.apart.each s c in record {
       there = u.there;
       whole = u.whole;
@@ -60,13 +60,13 @@ joined_to shares t text random h chosen joined stands j =
     (j.join.wide ∙ ap (λ (z : ℕ). z + 32) long ∙ sym (length-with_digest text))
     (subst (λ (z : List ℕ). IsJoin (points_of chosen) z joined) (values_are text random chosen (λ s c. stands.own s (held s c))) j.join.join)
 
-pub given_back : (shares : List DeskShare) (t : Terms) (text random : List ℕ) (j : Joined) → StandsIn shares t text random
-    → IsGiven shares j → j.text.items ≡ text
+pub given_back : (shares : List DeskShare) (t : Terms) (text random : List ℕ) (j : Joined) → SetStandsIn shares t text random
+    → IsTextGiven shares j → j.text.items ≡ text
 given_back shares t text random j stands given =
     text-with_digest j.text.items text (joined_to shares t text random j.head given.0 (with_digest j.text.items) stands given.1)
 
-pub only_memory : (shares : List DeskShare) (t : Terms) (text random : List ℕ) (e : JoinFault) → StandsIn shares t text random
-    → IsFault shares e → e ≡ NoMemory
+pub only_memory : (shares : List DeskShare) (t : Terms) (text random : List ℕ) (e : JoinFault) → SetStandsIn shares t text random
+    → IsJoinFault shares e → e ≡ NoMemory
 only_memory shares t text random NoShare stands none =
     let one = one_of_complete shares (head_of t text random 0) stands.enough.0 stands.enough.1 in
     absurd (none one.0 one.2.there one.2.whole)
@@ -75,15 +75,15 @@ only_memory shares t text random (Damaged h) stands bad =
     absurd (bad.3 text (joined_to shares t text random h bad.0 bad.1 stands bad.2))
 only_memory shares t text random NoMemory stands none = refl
 
-pub gives : (shares : List DeskShare) (r : Result Joined JoinFault) → IfOk r (λ j. IsGiven shares j) → IfErr r (λ e. IsFault shares e)
-    → (t : Terms) (text random : List ℕ) → StandsIn shares t text random → GivesBack text r
+pub gives : (shares : List DeskShare) (r : Result Joined JoinFault) → IfOk r (λ j. IsTextGiven shares j) → IfErr r (λ e. IsJoinFault shares e)
+    → (t : Terms) (text random : List ℕ) → SetStandsIn shares t text random → GivesTextBack text r
 gives shares (Ok j) given fault t text random stands = given_back shares t text random j stands given
 gives shares (Err e) given fault t text random stands = only_memory shares t text random e stands fault
 
 -- what the rows of enough shares are joined to
 pub joined_of : (shares : List DeskShare) (h : ShareHead) (chosen : List DeskShare) (points values whole : List ℕ)
     → AreReady shares h chosen points values → AreRows shares h chosen points values → IsNewest shares h
-    → length whole ≡ h.length + 32 → IsJoin points values whole → AreJoined shares h chosen whole
+    → length whole ≡ h.length + 32 → IsJoin points values whole → AreSharesJoined shares h chosen whole
 joined_of shares h chosen points values whole r rows newest wide join = record {
   enough = r.enough;
   newest = newest;
@@ -95,11 +95,11 @@ joined_of shares h chosen points values whole r rows newest wide join = record {
 }
 
 -- why none is given
-pub none_told : (shares : List DeskShare) → IsLatest shares IsWhole (length shares) None → IsFault shares NoShare
+pub none_told : (shares : List DeskShare) → IsLatest shares IsShareWhole (length shares) None → IsJoinFault shares NoShare
 none_told shares none s there whole = let at = place_in shares s there in none at.0 s at.1 at.2 whole
 
 pub few_told : (shares : List DeskShare) (h : ShareHead) (points : List ℕ) (have : ℕ) → ((g : ShareHead) → ¬ IsComplete shares g)
-    → IsLatest shares IsWhole (length shares) (Some h) → AreFound shares h 17 points → have ≡ length points → IsFault shares (Few h have)
+    → IsLatest shares IsShareWhole (length shares) (Some h) → AreFound shares h 17 points → have ≡ length points → IsJoinFault shares (Few h have)
 few_told shares h points have none latest f count =
     let found = latest.0 in
     let some : 1 ≤ h.need = omega (arith, found.2.head.need_first, ap (λ (z : ShareHead). z.need) found.3) in

@@ -16,9 +16,9 @@ use Rattle.pot_split.specs.Secrecy.{IsRows}
 use Rattle.pot_split.specs.Threshold.{explaining, share, shares_at, IsJoin}
 use Rattle.pot_split.proofs.ShareLemmas.{length-share}
 use Rattle.pot_split.proofs.SplitLaws.{threshold_laws}
-use Rattle.pot_desk_shares.specs.Making.{head_of, share_of, values_at, IsSet}
+use Rattle.pot_desk_shares.specs.Making.{head_of, share_of, values_at, IsShareSet}
 use Rattle.pot_desk_shares.specs.Shares.{share_bytes, with_digest, IsShare}
-use Rattle.pot_desk_shares.specs.Veils.{explained, IsVeiled, VeilLaws}
+use Rattle.pot_desk_shares.specs.Veils.{explained, IsTextVeiled, DeskVeilLaws}
 use Rattle.pot_desk_shares.specs.declared.making.Terms.{Terms}
 use Rattle.pot_desk_shares.specs.declared.share.ShareHead.{ShareHead}
 
@@ -74,7 +74,7 @@ rows_fit need long secret random few size taken =
     let le : (need - 1) * length secret ≤ 15 * length secret = mul-le-mul_right (length secret) (omega (arith, few)) in
     (rows.1, omega (arith, le, length-drop {A = ℕ} 8 random, taken_so))
 
-set_rows : (t : Terms) (text random : List ℕ) → IsSet t text random
+set_rows : (t : Terms) (text random : List ℕ) → IsShareSet t text random
     → (length (drop 8 random) / length (with_digest text) ≡ t.need - 1) × IsRows (length (with_digest text)) (drop 8 random)
 set_rows t text random is =
     let long = length-with_digest text in
@@ -85,7 +85,7 @@ values_are : (text random points : List ℕ) → flat_map (values_at text random
 values_are text random [] = refl
 values_are text random (x ∷ points) = ap (λ (z : List ℕ). values_at text random x ++ z) (values_are text random points)
 
-pub joins_law : (t : Terms) (text random points joined : List ℕ) → IsSet t text random
+pub joins_law : (t : Terms) (text random points joined : List ℕ) → IsShareSet t text random
     → AreBytes points → IsDistinct nat_eq points → length points ≡ t.need
     → length joined ≡ length (with_digest text)
     → IsJoin points (flat_map (values_at text random) points) joined
@@ -98,7 +98,7 @@ joins_law t text random points joined is bytes apart many wide join =
     (subst (λ (z : List ℕ). IsJoin points z joined) (values_are text random points) join)
 
 -- what is made is a share
-pub made_law : (t : Terms) (text random : List ℕ) (x : ℕ) → IsSet t text random → 1 ≤ x → x ≤ t.count
+pub made_law : (t : Terms) (text random : List ℕ) (x : ℕ) → IsShareSet t text random → 1 ≤ x → x ≤ t.count
     → IsShare (head_of t text random x) (values_at text random x) (share_of t text random x)
 made_law t text random x is first last = record {
   head = record {
@@ -117,21 +117,21 @@ made_law t text random x is first last = record {
 
 -- WHAT FEWER ARE
 
-same_long : (t : Terms) (text other seen random : List ℕ) → IsVeiled t text other seen random
+same_long : (t : Terms) (text other seen random : List ℕ) → IsTextVeiled t text other seen random
     → length (with_digest other) ≡ length (with_digest text)
 same_long t text other seen random v =
     length-with_digest other ∙ ap (λ (z : ℕ). z + 32) v.same_length ∙ sym (length-with_digest text)
 
-rows-explained : (t : Terms) (text other seen random : List ℕ) → IsVeiled t text other seen random
+rows-explained : (t : Terms) (text other seen random : List ℕ) → IsTextVeiled t text other seen random
     → length (explaining (with_digest text) (with_digest other) seen (drop 8 random)) ≡ length (drop 8 random)
 rows-explained t text other seen random v =
     threshold_laws.as_many (with_digest text) (with_digest other) seen (drop 8 random) (omega (arith, length-with_digest text))
     (same_long t text other seen random v) (set_rows t text random v.set).1
 
-number_there : (t : Terms) (text other seen random : List ℕ) → IsVeiled t text other seen random → length (take 8 random) ≡ 8
+number_there : (t : Terms) (text other seen random : List ℕ) → IsTextVeiled t text other seen random → length (take 8 random) ≡ 8
 number_there t text other seen random v = length-take-le 8 random (omega (arith, v.set.taken))
 
-set_law : (t : Terms) (text other seen random : List ℕ) → IsVeiled t text other seen random → IsSet t other (explained text other seen random)
+set_law : (t : Terms) (text other seen random : List ℕ) → IsTextVeiled t text other seen random → IsShareSet t other (explained text other seen random)
 set_law t text other seen random v =
     let rows = explaining (with_digest text) (with_digest other) seen (drop 8 random) in
     record {
@@ -148,7 +148,7 @@ set_law t text other seen random v =
     }
 
 -- the number of the set stays, and behind it the coefficients stand that explain
-number_stays : (t : Terms) (text other seen random : List ℕ) → IsVeiled t text other seen random
+number_stays : (t : Terms) (text other seen random : List ℕ) → IsTextVeiled t text other seen random
     → big_number 8 (explained text other seen random) ≡ big_number 8 random
 number_stays t text other seen random v =
     let changed = explained text other seen random in
@@ -156,7 +156,7 @@ number_stays t text other seen random v =
     take_at (take 8 random) (explaining (with_digest text) (with_digest other) seen (drop 8 random)) 8 (number_there t text other seen random v) in
     sym (big_from-take 0 8 8 changed (omega arith)) ∙ ap (big_number 8) front ∙ big_from-take 0 8 8 random (omega arith)
 
-rows_stand : (t : Terms) (text other seen random : List ℕ) → IsVeiled t text other seen random
+rows_stand : (t : Terms) (text other seen random : List ℕ) → IsTextVeiled t text other seen random
     → drop 8 (explained text other seen random) ≡ explaining (with_digest text) (with_digest other) seen (drop 8 random)
 rows_stand t text other seen random v =
     drop_at (take 8 random) (explaining (with_digest text) (with_digest other) seen (drop 8 random)) 8 (number_there t text other seen random v)
@@ -165,7 +165,7 @@ unfoldable pub head_with : Terms → ℕ → ℕ → ℕ → ShareHead
 head_with t x set long =
     record { need = t.need; count = t.count; point = x; generation = t.generation; set = set; length = long }
 
-shares_law : (t : Terms) (text other seen random : List ℕ) (i : ℕ) → IsVeiled t text other seen random → i < length seen
+shares_law : (t : Terms) (text other seen random : List ℕ) (i : ℕ) → IsTextVeiled t text other seen random → i < length seen
     → share_of t other (explained text other seen random) (get_or seen i 0) ≡ share_of t text random (get_or seen i 0)
 unfolding head_with
 shares_law t text other seen random i v inside =
@@ -181,7 +181,7 @@ shares_law t text other seen random i v inside =
     ap₂ (λ (n l : ℕ). share_bytes (head_with t x n l) (values_at other changed x)) (number_stays t text other seen random v) v.same_length
     ∙ ap (share_bytes (head_of t text random x)) values
 
-back_law : (t : Terms) (text other seen random : List ℕ) → IsVeiled t text other seen random
+back_law : (t : Terms) (text other seen random : List ℕ) → IsTextVeiled t text other seen random
     → explained other text seen (explained text other seen random) ≡ random
 back_law t text other seen random v =
     let changed = explained text other seen random in
@@ -193,5 +193,5 @@ back_law t text other seen random v =
     (same_long t text other seen random v) (set_rows t text random v.set).1)
     ∙ take-append-drop 8 random
 
-pub veil_laws : VeilLaws
+pub veil_laws : DeskVeilLaws
 veil_laws = record { set = set_law; shares = shares_law; back = back_law }

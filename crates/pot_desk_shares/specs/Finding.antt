@@ -2,32 +2,32 @@
 use Rattle.std.specs.Prelude.{◌≡◌, ◌≤◌, ◌<◌, ℕ, List, Option, Some, None, length, nat_eq}
 use Rattle.std.specs.Prelude.{slice_get, MatchOption}
 use Rattle.std.specs.List.{flat_map, Contains, IsDistinct}
-use Rattle.pot_desk_shares.specs.Joins.{points_of, AreEnough, IsHeld, IsWhole}
+use Rattle.pot_desk_shares.specs.Joins.{points_of, AreEnoughShares, IsShareHeld, IsShareWhole}
 use Rattle.pot_desk_shares.specs.declared.share.DeskShare.{DeskShare}
 use Rattle.pot_desk_shares.specs.declared.share.ShareHead.{ShareHead}
 
 -- a share of the set of this head is there at this point
 abbrev pub IsThere : List DeskShare → ShareHead → ℕ → Type 0
-IsThere shares h x = (s : DeskShare) × IsHeld shares h s × (s.head.point ≡ x)
+IsThere shares h x = (s : DeskShare) × IsShareHeld shares h s × (s.head.point ≡ x)
 
 -- and this one stands at this place
-abbrev pub IsAt : List DeskShare → ShareHead → ℕ → ℕ → Type 0
-IsAt shares h x at =
-    (s : DeskShare) × (slice_get shares at ≡ Some s) × IsHeld shares h s × (s.head.point ≡ x)
+abbrev pub IsShareAt : List DeskShare → ShareHead → ℕ → ℕ → Type 0
+IsShareAt shares h x at =
+    (s : DeskShare) × (slice_get shares at ≡ Some s) × IsShareHeld shares h s × (s.head.point ≡ x)
 
 -- a share of this head stands at this place
 pub record HasHead (shares : List DeskShare) (h : ShareHead) (at : ℕ) (s : DeskShare) : Type 0 where
   pub there : slice_get shares at ≡ Some s
-  pub whole : IsWhole s
+  pub whole : IsShareWhole s
   pub head : s.head ≡ h
 
 -- enough shares of the set of this head are there
 abbrev pub IsComplete : List DeskShare → ShareHead → Type 0
-IsComplete shares h = (chosen : List DeskShare) × AreEnough shares h chosen
+IsComplete shares h = (chosen : List DeskShare) × AreEnoughShares shares h chosen
 
 -- a share of which that is so
 abbrev pub IsOfComplete : List DeskShare → DeskShare → Type 0
-IsOfComplete shares s = IsWhole s × IsComplete shares s.head
+IsOfComplete shares s = IsShareWhole s × IsComplete shares s.head
 
 -- newer than the best so far
 abbrev pub IsNewer : ShareHead → Option ShareHead → Type 0
@@ -57,4 +57,4 @@ pub record AreRows (shares : List DeskShare) (h : ShareHead) (chosen : List Desk
     (points values : List ℕ) : Type 0 where
   pub stand : points_of chosen ≡ points
   pub rows : flat_map (λ s. s.body.now) chosen ≡ values
-  pub each : (s : DeskShare) → Contains chosen s → IsHeld shares h s
+  pub each : (s : DeskShare) → Contains chosen s → IsShareHeld shares h s

@@ -2,8 +2,8 @@
 use Rattle.std.specs.Prelude.{◌≡◌, ◌≤◌, ◌<◌, ◌+◌, ◌⊎◌, ℕ, List, Ok, Err, Result, length, map, nat_eq}
 use Rattle.std.specs.List.{flat_map, Contains, IsDistinct}
 use Rattle.pot_split.specs.Threshold.{IsJoin}
-use Rattle.pot_desk_shares.specs.Making.{head_of, values_at, IsSet}
-use Rattle.pot_desk_shares.specs.Shares.{with_digest, IsHead}
+use Rattle.pot_desk_shares.specs.Making.{head_of, values_at, IsShareSet}
+use Rattle.pot_desk_shares.specs.Shares.{with_digest, IsShareHead}
 use Rattle.pot_desk_shares.specs.declared.joining.JoinFault.{JoinFault}
 use Rattle.pot_desk_shares.specs.declared.joining.JoinFault.TheVariants.{Damaged, Few, NoMemory}
 use Rattle.pot_desk_shares.specs.declared.joining.JoinFault.TheVariants.{NoShare}
@@ -24,14 +24,14 @@ at_point h x = record {
 }
 
 -- a share whose head is one, with 32 values more than bytes of the text
-pub record IsWhole (s : DeskShare) : Type 0 where
-  pub head : IsHead s.head
+pub record IsShareWhole (s : DeskShare) : Type 0 where
+  pub head : IsShareHead s.head
   pub long : length s.body.now ≡ s.head.length + 32
 
 -- the share stands among these, and belongs to the set of this head
-pub record IsHeld (shares : List DeskShare) (h : ShareHead) (s : DeskShare) : Type 0 where
+pub record IsShareHeld (shares : List DeskShare) (h : ShareHead) (s : DeskShare) : Type 0 where
   pub there : Contains shares s
-  pub whole : IsWhole s
+  pub whole : IsShareWhole s
   pub set : s.head ≡ at_point h s.head.point
 
 abbrev pub point_of : DeskShare → ℕ
@@ -41,68 +41,68 @@ abbrev pub points_of : List DeskShare → List ℕ
 points_of chosen = map point_of chosen
 
 -- shares of one set at distinct points
-pub record AreApart (shares : List DeskShare) (h : ShareHead) (chosen : List DeskShare) : Type
+pub record AreAtDistinctPoints (shares : List DeskShare) (h : ShareHead) (chosen : List DeskShare) : Type
     0 where
   pub distinct : IsDistinct nat_eq (points_of chosen)
-  pub each : (s : DeskShare) → Contains chosen s → IsHeld shares h s
+  pub each : (s : DeskShare) → Contains chosen s → IsShareHeld shares h s
 
 -- as many of them as are needed
-pub record AreEnough (shares : List DeskShare) (h : ShareHead) (chosen : List DeskShare) : Type
+pub record AreEnoughShares (shares : List DeskShare) (h : ShareHead) (chosen : List DeskShare) : Type
     0 where
   pub some : 1 ≤ h.need
   pub enough : length chosen ≡ h.need
-  pub apart : AreApart shares h chosen
+  pub apart : AreAtDistinctPoints shares h chosen
 
 -- no set is newer of which enough shares are there
 abbrev pub IsNewest : List DeskShare → ShareHead → Type 0
 IsNewest shares h =
-    (g : ShareHead) (chosen : List DeskShare) → AreEnough shares g chosen
+    (g : ShareHead) (chosen : List DeskShare) → AreEnoughShares shares g chosen
     → g.generation ≤ h.generation
 
 -- what these shares are joined to
-pub record IsJoined (h : ShareHead) (chosen : List DeskShare) (joined : List ℕ) : Type 0 where
+pub record AreValuesJoined (h : ShareHead) (chosen : List DeskShare) (joined : List ℕ) : Type 0 where
   pub wide : length joined ≡ h.length + 32
   pub join : IsJoin (points_of chosen) (flat_map (λ s. s.body.now) chosen) joined
 
 -- enough shares of the newest set, and what they are joined to
-pub record AreJoined (shares : List DeskShare) (h : ShareHead) (chosen : List DeskShare)
+pub record AreSharesJoined (shares : List DeskShare) (h : ShareHead) (chosen : List DeskShare)
     (joined : List ℕ) : Type 0 where
-  pub enough : AreEnough shares h chosen
+  pub enough : AreEnoughShares shares h chosen
   pub newest : IsNewest shares h
-  pub join : IsJoined h chosen joined
+  pub join : AreValuesJoined h chosen joined
 
 -- the text whose digest stands behind it where they are joined
-abbrev pub IsGiven : List DeskShare → Joined → Type 0
-IsGiven shares j =
-    (chosen : List DeskShare) × AreJoined shares j.head chosen (with_digest j.text.items)
+abbrev pub IsTextGiven : List DeskShare → Joined → Type 0
+IsTextGiven shares j =
+    (chosen : List DeskShare) × AreSharesJoined shares j.head chosen (with_digest j.text.items)
 
 -- Why no text is given. No share is there; of no set are enough there, and of the newest that is
 -- there so many points are; or enough shares of the newest complete set are joined to what is no
 -- text with its digest.
-abbrev pub IsFault : List DeskShare → JoinFault → Type 0
-IsFault shares NoShare = (s : DeskShare) → Contains shares s → ¬ IsWhole s
-IsFault shares (Few h have) =
-    ((g : ShareHead) (chosen : List DeskShare) → ¬ AreEnough shares g chosen)
-    × ((s : DeskShare) → Contains shares s → IsWhole s → s.head.generation ≤ h.generation)
+abbrev pub IsJoinFault : List DeskShare → JoinFault → Type 0
+IsJoinFault shares NoShare = (s : DeskShare) → Contains shares s → ¬ IsShareWhole s
+IsJoinFault shares (Few h have) =
+    ((g : ShareHead) (chosen : List DeskShare) → ¬ AreEnoughShares shares g chosen)
+    × ((s : DeskShare) → Contains shares s → IsShareWhole s → s.head.generation ≤ h.generation)
     × (have < h.need)
-    × ((chosen : List DeskShare) × AreApart shares h chosen × (length chosen ≡ have))
-    × ((chosen : List DeskShare) → AreApart shares h chosen → length chosen ≤ have)
-IsFault shares (Damaged h) =
-    (chosen : List DeskShare) × (joined : List ℕ) × AreJoined shares h chosen joined
+    × ((chosen : List DeskShare) × AreAtDistinctPoints shares h chosen × (length chosen ≡ have))
+    × ((chosen : List DeskShare) → AreAtDistinctPoints shares h chosen → length chosen ≤ have)
+IsJoinFault shares (Damaged h) =
+    (chosen : List DeskShare) × (joined : List ℕ) × AreSharesJoined shares h chosen joined
     × ((text : List ℕ) → ¬ (joined ≡ with_digest text))
-IsFault shares NoMemory = Unit {0}
+IsJoinFault shares NoMemory = Unit {0}
 
 -- Enough shares of a text's set are there. All that are there of its set are its own, and of no
 -- other set that is as new or newer are enough there.
-pub record StandsIn (shares : List DeskShare) (t : Terms) (text random : List ℕ) : Type 0 where
-  pub set : IsSet t text random
-  pub enough : (chosen : List DeskShare) × AreEnough shares (head_of t text random 0) chosen
-  pub own : (s : DeskShare) → IsHeld shares (head_of t text random 0) s
+pub record SetStandsIn (shares : List DeskShare) (t : Terms) (text random : List ℕ) : Type 0 where
+  pub set : IsShareSet t text random
+  pub enough : (chosen : List DeskShare) × AreEnoughShares shares (head_of t text random 0) chosen
+  pub own : (s : DeskShare) → IsShareHeld shares (head_of t text random 0) s
       → s.body.now ≡ values_at text random s.head.point
-  pub newest : (g : ShareHead) (chosen : List DeskShare) → AreEnough shares g chosen
+  pub newest : (g : ShareHead) (chosen : List DeskShare) → AreEnoughShares shares g chosen
       → (g.generation < t.generation) ⊎ (at_point g 0 ≡ head_of t text random 0)
 
 -- the text is given, or memory was not found
-abbrev pub GivesBack : List ℕ → Result Joined JoinFault → Type 0
-GivesBack text (Ok j) = j.text.items ≡ text
-GivesBack text (Err e) = e ≡ NoMemory
+abbrev pub GivesTextBack : List ℕ → Result Joined JoinFault → Type 0
+GivesTextBack text (Ok j) = j.text.items ≡ text
+GivesTextBack text (Err e) = e ≡ NoMemory

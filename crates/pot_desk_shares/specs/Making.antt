@@ -39,7 +39,7 @@ abbrev pub share_of : Terms → List ℕ → List ℕ → ℕ → List ℕ
 share_of t text random x = share_bytes (head_of t text random x) (values_at text random x)
 
 -- a text, and random bytes that a set of it takes
-pub record IsSet (t : Terms) (text random : List ℕ) : Type 0 where
+pub record IsShareSet (t : Terms) (text random : List ℕ) : Type 0 where
   pub terms : AreTerms t
   pub generation : t.generation < 2 ^ 64
   pub fits : length text ≤ longest

@@ -30,7 +30,7 @@ longest = 1073741824
 
 -- a head that a share has: its point is 1 to n, m is 1 to n, n is at most 16, and the text is at
 -- most 2^30 bytes
-pub record IsHead (h : ShareHead) : Type 0 where
+pub record IsShareHead (h : ShareHead) : Type 0 where
   pub need_first : 1 ≤ h.need
   pub need_last : h.need ≤ h.count
   pub count : h.count ≤ 16
@@ -43,13 +43,13 @@ pub record IsHead (h : ShareHead) : Type 0 where
 -- these bytes are the share of this head and these values, of which there are 32 more than bytes of
 -- the text
 pub record IsShare (h : ShareHead) (body bytes : List ℕ) : Type 0 where
-  pub head : IsHead h
+  pub head : IsShareHead h
   pub whole : length body ≡ h.length + 32
   pub spelled : bytes ≡ share_bytes h body
 
 -- what stands round the fields: the magic first, and last the SHA-256 of all before it
-abbrev pub IsFramed : List ℕ → Type 0
-IsFramed bytes =
+abbrev pub HasShareFrame : List ℕ → Type 0
+HasShareFrame bytes =
     (take 5 bytes ≡ magic)
     × (drop (length bytes - 32) bytes ≡ digest_bytes (take (length bytes - 32) bytes))
 

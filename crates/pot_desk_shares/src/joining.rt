@@ -1,10 +1,11 @@
 //! The newest text of which enough shares are there.
 ghost use Rattle.std.specs.Prelude.{◌≡◌, ◌≤◌, ◌<◌, ◌↔◌, ◌++◌, ◌∷◌, [], ℕ, List, length};
 ghost use Rattle.std.specs.Prelude.{slice_index, IsTrue, IfOk, IfErr, MatchOption, OnOk};
-ghost use Rattle.pot_desk_shares.specs.Finding.{AreFound, AreRows, HasHead, IsAt, IsComplete};
+ghost use Rattle.pot_desk_shares.specs.Finding.{AreFound, AreRows, HasHead, IsShareAt, IsComplete};
 ghost use Rattle.pot_desk_shares.specs.Finding.{IsLatest, IsNewer, IsOfComplete, IsThere};
-ghost use Rattle.pot_desk_shares.specs.Joins.{GivesBack, IsFault, IsGiven, IsNewest, IsWhole};
-ghost use Rattle.pot_desk_shares.specs.Joins.{StandsIn};
+ghost use Rattle.pot_desk_shares.specs.Joins.{GivesTextBack, IsJoinFault, IsTextGiven, IsNewest};
+ghost use Rattle.pot_desk_shares.specs.Joins.{IsShareWhole};
+ghost use Rattle.pot_desk_shares.specs.Joins.{SetStandsIn};
 ghost use Rattle.pot_desk_shares.specs.Shares.{with_digest};
 ghost use Rattle.pot_desk_shares.specs.declared.making.Terms.{Terms};
 ghost use Rattle.pot_desk_shares.specs.declared.share.DeskShare.{DeskShare};
@@ -61,10 +62,10 @@ impl From<AllocError> for JoinFault {
 /// # Errors
 /// As `JoinFault` tells.
 pub fn join(alloc: Global, shares: &[DeskShare]) -> Result<Joined, JoinFault>
-    ensures given { IfOk result (λ j. IsGiven shares.now j) }
-    ensures fault { IfErr result (λ e. IsFault shares.now e) }
-    ensures gives_back { (t : Terms) (text random : List ℕ) → StandsIn shares.now t text random
-        → GivesBack text result }
+    ensures given { IfOk result (λ j. IsTextGiven shares.now j) }
+    ensures fault { IfErr result (λ e. IsJoinFault shares.now e) }
+    ensures gives_back { (t : Terms) (text random : List ℕ) → SetStandsIn shares.now t text random
+        → GivesTextBack text result }
 {
     match newest_complete(alloc, shares)? {
         Some(head) => join_set(alloc, shares, &head),
@@ -76,8 +77,8 @@ pub fn join(alloc: Global, shares: &[DeskShare]) -> Result<Joined, JoinFault>
 fn join_set(alloc: Global, shares: &[DeskShare], head: &ShareHead) -> Result<Joined, JoinFault>
     requires complete { IsComplete shares.now head.now }
     requires newest { IsNewest shares.now head.now }
-    ensures given { IfOk result (λ j. IsGiven shares.now j) }
-    ensures fault { IfErr result (λ e. IsFault shares.now e) }
+    ensures given { IfOk result (λ j. IsTextGiven shares.now j) }
+    ensures fault { IfErr result (λ e. IsJoinFault shares.now e) }
 {
     let points = points_at(alloc, shares, head)?;
     let values = values_at(alloc, shares, head, &points)?;
@@ -108,7 +109,7 @@ fn text_in(whole: Vec<u8>) -> Option<Vec<u8>>
 /// Why none of these sets is complete.
 fn why_not(alloc: Global, shares: &[DeskShare]) -> Result<JoinFault, NoMemory>
     requires { (h : ShareHead) → ¬ IsComplete shares.now h }
-    ensures { IfOk result (λ e. IsFault shares.now e) }
+    ensures { IfOk result (λ e. IsJoinFault shares.now e) }
 {
     match newest(shares) {
         Some(head) => {
@@ -124,7 +125,7 @@ fn why_not(alloc: Global, shares: &[DeskShare]) -> Result<JoinFault, NoMemory>
 
 /// The head of a newest share.
 fn newest(shares: &[DeskShare]) -> Option<ShareHead>
-    ensures { IsLatest shares.now IsWhole (length shares.now) result }
+    ensures { IsLatest shares.now IsShareWhole (length shares.now) result }
 {
     let mut best = None;
     for at in 0..shares.len() {
@@ -220,7 +221,7 @@ fn values_at(
 /// Where a share of a set at a point stands.
 fn find_share(shares: &[DeskShare], head: &ShareHead, point: u8) -> Option<usize>
     ensures { MatchOption result (¬ IsThere shares.now head.now point)
-        (λ at. IsAt shares.now head.now point at) }
+        (λ at. IsShareAt shares.now head.now point at) }
 {
     find_head(shares, &ShareHead { point, ..*head })
 }
@@ -241,7 +242,7 @@ fn find_head(shares: &[DeskShare], wanted: &ShareHead) -> Option<usize>
 
 /// Whether the head is that of a share, and as many values are there as it says.
 fn is_whole(share: &DeskShare) -> bool
-    ensures { IsTrue result ↔ IsWhole share.now }
+    ensures { IsTrue result ↔ IsShareWhole share.now }
 {
     is_head(&share.head) && share.body.len() as u64 == share.head.length + 32
 }

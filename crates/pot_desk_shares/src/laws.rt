@@ -1,5 +1,5 @@
 //! What shares are good for, and what they tell.
-ghost use Rattle.pot_desk_shares.specs.Veils.{ShareLaws, VeilLaws};
+ghost use Rattle.pot_desk_shares.specs.Veils.{ShareLaws, DeskVeilLaws};
 
 /// What is made is a share, a share has one head and one body, and any shares of a set at as many
 /// points as are needed are joined to its text.
@@ -11,5 +11,5 @@ pub fn share_laws()
 /// random
 /// bytes, one for one.
 pub fn veil_laws()
-    ensures { VeilLaws }
+    ensures { DeskVeilLaws }
 {}

@@ -1,7 +1,7 @@
 //! A share: its head, its values, and how it is read.
 ghost use Rattle.std.specs.Prelude.{◌≡◌, ◌≤◌, ◌↔◌, ℕ, List, length, IsTrue, IfOk, MatchOption};
 ghost use Rattle.pot_desk_shares.specs.Shares.{head_at, share_bytes, with_digest};
-ghost use Rattle.pot_desk_shares.specs.Shares.{IsFramed, IsHead, IsShare};
+ghost use Rattle.pot_desk_shares.specs.Shares.{HasShareFrame, IsShareHead, IsShare};
 ghost use Rattle.pot_desk_shares.specs.declared.share.ShareHead.{ShareHead};
 
 use crate::making::LONGEST;
@@ -97,7 +97,7 @@ fn head_in(bytes: &[u8]) -> ShareHead
 
 /// Whether some share has this head.
 pub(crate) fn is_head(head: &ShareHead) -> bool
-    ensures { IsTrue result ↔ IsHead head.now }
+    ensures { IsTrue result ↔ IsShareHead head.now }
 {
     let known = *head;
     known.need >= 1
@@ -111,7 +111,7 @@ pub(crate) fn is_head(head: &ShareHead) -> bool
 /// Whether the magic stands first, and last the digest of all that stands before it.
 fn is_framed(bytes: &[u8]) -> bool
     requires { 64 ≤ length bytes.now }
-    ensures { IsTrue result ↔ IsFramed bytes.now }
+    ensures { IsTrue result ↔ HasShareFrame bytes.now }
 {
     let (front, digest) = bytes.split_at(bytes.len() - 32);
     &bytes[..5] == MAGIC.as_slice() && digest_of(front).bytes.as_slice() == digest

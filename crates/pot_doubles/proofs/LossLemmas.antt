@@ -10,9 +10,9 @@ use Rattle.std.proofs.lemmas.Cmp.{nat_list_eq_equiv}
 use Rattle.std.proofs.lemmas.List.Folds.{list_any-append}
 use Rattle.std.proofs.lemmas.List.Sums.{sum_by-cons}
 use Rattle.std.proofs.lemmas.Map.Views.{Contains-from_any}
-use Rattle.pot_outside.specs.Archives.{Contents, OnlyLoses, at_slot, IsRemembered}
+use Rattle.pot_outside.specs.Archives.{HeldBlocks, OnlyLoses, at_slot, IsRemembered}
 use Rattle.pot_doubles.specs.Losses.{goes_missing, losses_at, without, raised_by}
-use Rattle.pot_doubles.specs.Kept.{IsKept, IsLow, is_among}
+use Rattle.pot_doubles.specs.Kept.{AreBlocksKept, AreSlotsLow, is_among}
 use Rattle.pot_doubles.specs.declared.losses.Loss.{Loss}
 
 -- where no loss is listed for a call, no slot's block goes missing
@@ -26,7 +26,7 @@ none_missing (l ∷ losses) call slot e = at (l.call == call) (l.slot == slot) (
     at false there n rest f z = f (omega arith)
 
 -- the losses that are listed lose blocks and are counted
-pub loses_listed : (losses : List Loss) (call : ℕ) (old new : Contents) (before now : ℕ) → before < 2 ^ 64
+pub loses_listed : (losses : List Loss) (call : ℕ) (old new : HeldBlocks) (before now : ℕ) → before < 2 ^ 64
     → ((k : ℕ) → new k ≡ without losses call old k) → now ≡ raised_by (losses_at losses call) before → OnlyLoses old new before now
 loses_listed losses call old new before now fits gone count = record {
   later = omega arith;
@@ -39,10 +39,10 @@ loses_listed losses call old new before now fits gone count = record {
     was false k b h = h
 
 -- a slot that keeps what it holds
-pub at_same : (a : Contents) (slot : ℕ) (k : ℕ) → at_slot a slot (a slot) k ≡ a k
+pub at_same : (a : HeldBlocks) (slot : ℕ) (k : ℕ) → at_slot a slot (a slot) k ≡ a k
 at_same a slot k = elim (eqb_tells k slot) [ inl e ↦ rw e.0 (ap a (sym e.1)) | inr e ↦ rw e.0 ]
 
-pub loses_at_same : (a b : Contents) (slot before now : ℕ) → OnlyLoses a b before now → OnlyLoses (at_slot a slot (a slot)) b before now
+pub loses_at_same : (a b : HeldBlocks) (slot before now : ℕ) → OnlyLoses a b before now → OnlyLoses (at_slot a slot (a slot)) b before now
 loses_at_same a b slot before now o = record {
   later = o.later;
   keeps = (λ k x h. at_same a slot k ∙ o.keeps k x h);
@@ -56,12 +56,12 @@ same_list (a ∷ x) [] e = absurd (cc)
 same_list (a ∷ x) (b ∷ y) e = grind (arith, nat_tests, same_list x y)
 
 -- the blocks that are held are among those that were ever held
-pub remembered : (blocks : BTreeMap ℕ (List ℕ)) (past : List (List ℕ)) → IsKept blocks past → IsRemembered (get nat_cmp blocks) past
+pub remembered : (blocks : BTreeMap ℕ (List ℕ)) (past : List (List ℕ)) → AreBlocksKept blocks past → IsRemembered (get nat_cmp blocks) past
 remembered blocks past kept = λ k b h. Contains-from_any same_list b past (kept k b h)
 
 -- a block that is remembered and then written keeps that so
-pub kept_written : (m n : BTreeMap ℕ (List ℕ)) (past : List (List ℕ)) (slot : ℕ) (block : List ℕ) → IsKept m past
-    → ((q : ℕ) → get nat_cmp n q ≡ cond (is_at (nat_cmp slot) q) (Some block) (get nat_cmp m q)) → IsKept n (past ++ block ∷ [])
+pub kept_written : (m n : BTreeMap ℕ (List ℕ)) (past : List (List ℕ)) (slot : ℕ) (block : List ℕ) → AreBlocksKept m past
+    → ((q : ℕ) → get nat_cmp n q ≡ cond (is_at (nat_cmp slot) q) (Some block) (get nat_cmp m q)) → AreBlocksKept n (past ++ block ∷ [])
 kept_written m n past slot block kept after = λ k b h. at (is_at (nat_cmp slot) k) k b (sym (after k) ∙ h)
   where
     at : (t : Bool) (k : ℕ) (b : List ℕ) → cond t (Some block) (get nat_cmp m k) ≡ Some b → is_among (past ++ block ∷ []) b ≡ true
@@ -74,8 +74,8 @@ kept_written m n past slot block kept after = λ k b h. at (is_at (nat_cmp slot)
         grind (arith, list_any-append)
 
 -- and none is held from slot 2^32 on, where none was and the slot is below it
-pub low_written : (m n : BTreeMap ℕ (List ℕ)) (slot : ℕ) (block : List ℕ) → slot < 2 ^ 32 → IsLow m
-    → ((q : ℕ) → get nat_cmp n q ≡ cond (is_at (nat_cmp slot) q) (Some block) (get nat_cmp m q)) → IsLow n
+pub low_written : (m n : BTreeMap ℕ (List ℕ)) (slot : ℕ) (block : List ℕ) → slot < 2 ^ 32 → AreSlotsLow m
+    → ((q : ℕ) → get nat_cmp n q ≡ cond (is_at (nat_cmp slot) q) (Some block) (get nat_cmp m q)) → AreSlotsLow n
 low_written m n slot block fits low after = λ k b h. elim (eqb_tells slot k) [
   | inl e ↦ subst (λ j. j < 2 ^ 32) e.1 fits
   | inr e ↦ low k b (sym (after k ∙ ap (λ t. cond t (Some block) (get nat_cmp m k)) (unsigned_tied slot k ∙ e.0)) ∙ h)

@@ -2,7 +2,7 @@
 use Rattle.std.specs.Prelude.{◌≡◌, ℕ, Bool, List, map, Some, None, is_some, Result, Ok, Err}
 use Rattle.std.specs.Ordering.{nat_cmp}
 use Rattle.std.specs.BTreeMap.{get}
-use Rattle.pot_outside.specs.Archives.{Contents, Meaning, at_slot}
+use Rattle.pot_outside.specs.Archives.{HeldBlocks, Meaning, at_slot}
 use Rattle.pot_outside.specs.declared.faults.Failed.{Failed}
 use Rattle.pot_doubles.specs.Losses.{without, losses_at, raised_by}
 use Rattle.pot_doubles.specs.Calls.{raised}
@@ -11,7 +11,7 @@ use Rattle.pot_doubles.specs.declared.losses.Loss.{Loss}
 use Rattle.pot_doubles.specs.declared.archive.LossyArchive.{LossyArchive}
 
 -- the block of each slot
-abbrev pub held_in : LossyArchive → Contents
+abbrev pub held_in : LossyArchive → HeldBlocks
 held_in a k = get nat_cmp a.blocks k
 
 -- the blocks that were ever held, in the order in which they were written
@@ -50,7 +50,7 @@ abbrev pub losses_of : LossyArchive → List Loss
 losses_of a = a.losses.items
 
 -- the block of each slot, and the count of losses, after those that are listed for the next call
-abbrev pub held_after_losses : LossyArchive → Contents
+abbrev pub held_after_losses : LossyArchive → HeldBlocks
 held_after_losses a k = without (losses_of a) (archive_calls a).made (held_in a) k
 
 abbrev pub lost_after_losses : LossyArchive → ℕ

@@ -47,14 +47,14 @@ covering before now c =
 
 -- A call whose first steps leave `first` is answered by a failure exactly where it was due to fail
 -- or then found no memory, and only the latter counts one more fault.
-abbrev pub Answered : {T E : Type 0} → Bool → Calls → Calls → Result T E → Type 0
-Answered due first new (Ok x) = (due ≡ false) × (new ≡ first)
-Answered due first new (Err e) =
+abbrev pub AnsweredAsDue : {T E : Type 0} → Bool → Calls → Calls → Result T E → Type 0
+AnsweredAsDue due first new (Ok x) = (due ≡ false) × (new ≡ first)
+AnsweredAsDue due first new (Err e) =
     ((due ≡ true) × (new ≡ first)) ⊎ ((due ≡ false) × (new ≡ starving first))
 
 -- a call that fails exactly where it is to fail or found no memory, and counts a fault exactly then
 abbrev pub Counted : {T E : Type 0} → Calls → Calls → Result T E → Type 0
-Counted old new result = Answered (is_due old) (begun old) new result
+Counted old new result = AnsweredAsDue (is_due old) (begun old) new result
 
 -- UNDER A FUSE, which several doubles share. Nothing tells when it is spent, since others spend it
 -- too.
@@ -75,7 +75,7 @@ abbrev pub AnsweredFused
     : {T E : Type 0} → Bool → (Calls → Calls) → Calls → Calls → Result T E → Type 0
 AnsweredFused fused steps old new result =
     (fails : Bool) × IsToFail fused old fails
-    × Answered fails (steps (begun_as fails old)) new result
+    × AnsweredAsDue fails (steps (begun_as fails old)) new result
 
 -- a call that takes no such step
 abbrev pub CountedFused : {T E : Type 0} → Bool → Calls → Calls → Result T E → Type 0

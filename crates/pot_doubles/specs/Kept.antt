@@ -10,9 +10,9 @@ abbrev pub is_among : List (List ℕ) → List ℕ → Bool
 is_among past block = list_any (pointwise nat_eq block) past
 
 -- every block that is held is among those that were ever held
-abbrev pub IsKept : BTreeMap ℕ (List ℕ) → List (List ℕ) → Type 0
-IsKept blocks past = (k : ℕ) (b : List ℕ) → get nat_cmp blocks k ≡ Some b → is_among past b ≡ true
+abbrev pub AreBlocksKept : BTreeMap ℕ (List ℕ) → List (List ℕ) → Type 0
+AreBlocksKept blocks past = (k : ℕ) (b : List ℕ) → get nat_cmp blocks k ≡ Some b → is_among past b ≡ true
 
 -- no slot from 2^32 on holds a block
-abbrev pub IsLow : BTreeMap ℕ (List ℕ) → Type 0
-IsLow blocks = (k : ℕ) (b : List ℕ) → get nat_cmp blocks k ≡ Some b → k < 2 ^ 32
+abbrev pub AreSlotsLow : BTreeMap ℕ (List ℕ) → Type 0
+AreSlotsLow blocks = (k : ℕ) (b : List ℕ) → get nat_cmp blocks k ≡ Some b → k < 2 ^ 32

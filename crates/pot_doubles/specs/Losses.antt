@@ -2,7 +2,7 @@
 use Rattle.std.specs.Prelude.{◌+◌, ◌-◌, ◌^◌, ◌==◌, ◌&&◌, ℕ, Bool, List, None, min, count_by}
 use Rattle.std.specs.Prelude.{if◌then◌else◌}
 use Rattle.std.specs.List.{list_any}
-use Rattle.pot_outside.specs.Archives.{Contents}
+use Rattle.pot_outside.specs.Archives.{HeldBlocks}
 use Rattle.pot_doubles.specs.declared.losses.Loss.{Loss}
 
 -- whether a slot's block goes missing at the start of this call
@@ -14,7 +14,7 @@ abbrev pub losses_at : List Loss → ℕ → ℕ
 losses_at losses call = count_by (λ l. l.call == call) losses
 
 -- what is held after the losses of this call
-abbrev pub without : List Loss → ℕ → Contents → Contents
+abbrev pub without : List Loss → ℕ → HeldBlocks → HeldBlocks
 without losses call held slot = if goes_missing losses call slot then None else held slot
 
 -- a count of losses after some more; it stands still at the last value of 64 bits

@@ -56,8 +56,8 @@ abbrev pub failures_of : MemRoom → ℕ
 failures_of r = r.failures
 
 -- a call leaves a number as it was
-abbrev pub SameAt : MemRoom → MemRoom → ℕ → Type 0
-SameAt old new n =
+abbrev pub SameNumber : MemRoom → MemRoom → ℕ → Type 0
+SameNumber old new n =
     (means_in new n ≡ means_in old n) × (is_out new n ≡ is_out old n)
     × (lent_of new n ≡ lent_of old n)
 

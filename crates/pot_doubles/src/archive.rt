@@ -1,5 +1,5 @@
 ghost use Rattle.std.specs.Prelude.{ℕ};
-ghost use Rattle.pot_doubles.specs.Kept.{IsKept, IsLow};
+ghost use Rattle.pot_doubles.specs.Kept.{AreBlocksKept, AreSlotsLow};
 
 use crate::calls::Calls;
 use crate::fuse::{Fuse, begin_fused};
@@ -26,8 +26,8 @@ pub struct LossyArchive {
     lost: u64,
     calls: Calls,
     fuse: Option<Fuse>,
-    ghost kept: { IsKept blocks past.items },
-    ghost low: { IsLow blocks },
+    ghost kept: { AreBlocksKept blocks past.items },
+    ghost low: { AreSlotsLow blocks },
 }
 
 impl LossyArchive {

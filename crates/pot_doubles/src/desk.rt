@@ -1,28 +1,33 @@
 use crate::calls::Calls;
 use pot_outside::{Desk, DeskFault, Failed};
-use std::alloc::Global;
+use std::alloc::{AllocError, Global};
+use std::mem;
 
-/// An image in memory, or none.
+/// An image in memory, or none, and the images before it.
 #[derive(Drop)]
 pub struct MemDesk {
     alloc: Global,
     image: Option<Vec<u8>>,
+    past: Vec<Vec<u8>>,
     calls: Calls,
 }
 
 impl MemDesk {
-    ghost use Rattle.std.specs.Prelude.{◌≡◌, option_map};
+    ghost use Rattle.std.specs.Prelude.{◌≡◌, ◌++◌, ◌∷◌, [], Some, OnOk, OnErr, option_map};
+    ghost use Rattle.std.specs.Option.{option_to_list};
     ghost use Rattle.pot_doubles.specs.Calls.{IsFresh};
-    ghost use Rattle.pot_doubles.specs.Desks.{image_of, desk_calls};
+    ghost use Rattle.pot_doubles.specs.Desks.{image_of, images_of, desk_calls};
 
     /// A desk with this image, or none. The calls of the numbers `fails` are to fail.
     pub fn new(alloc: Global, image: Option<Vec<u8>>, fails: Vec<u32>) -> MemDesk
         ensures image { image_of result ≡ option_map (λ v. v.items) image }
+        ensures past { (images_of result).past ≡ option_to_list (image_of result) }
         ensures calls { IsFresh (desk_calls result) fails.items }
     {
         MemDesk {
             alloc,
             image,
+            past: Vec::new(alloc),
             calls: Calls::new(fails),
         }
     }
@@ -33,25 +38,41 @@ impl MemDesk {
     {
         self.calls.starved()
     }
+
+    /// Puts an image in the place of the one before, which is kept with those before it.
+    fn put(&mut self, image: Vec<u8>) -> Result<(), AllocError>
+        ensures now { OnOk result (image_of self.new ≡ Some image.items) }
+        ensures past { OnOk result
+            ((images_of self.new).past ≡ (images_of self.old).past ++ image.items ∷ []) }
+        ensures same { OnErr result (images_of self.new ≡ images_of self.old) }
+        ensures calls { desk_calls self.new ≡ desk_calls self.old }
+    {
+        self.past.reserve(1)?;
+        if let Some(before) = mem::replace(&mut self.image, Some(image)) {
+            self.past.push_reserved(before);
+        }
+        Ok(())
+    }
 }
 
 impl Desk for MemDesk {
-    ghost use Rattle.std.specs.Prelude.{◌≡◌, ◌↔◌, List, ℕ, Option, Some, None, true, IfOk, OnErr};
-    ghost use Rattle.std.specs.Prelude.{MatchOption, IsTrue, IsErr, IsErrOf};
+    ghost use Rattle.std.specs.Prelude.{◌≡◌, ◌↔◌, ◌++◌, ◌∷◌, [], Some, None, true, IfOk, OnOk};
+    ghost use Rattle.std.specs.Prelude.{OnErr, MatchOption, IsTrue, IsErr, IsErrOf};
     ghost use Rattle.pot_outside.specs.Counts.{Caused};
-    ghost use Rattle.pot_outside.specs.Streams.{Replaces};
+    ghost use Rattle.pot_outside.specs.Desks.{HadItsImage, Replaces, MayCome};
     ghost use Rattle.pot_doubles.specs.Calls.{Counted, begun, is_due};
-    ghost use Rattle.pot_doubles.specs.Desks.{image_of, desk_calls};
+    ghost use Rattle.pot_doubles.specs.Desks.{image_of, images_of, desk_calls};
 
     ghost account = { record {
       tells = true;
-      meaning = λ d. record { held = image_of d; faults = (desk_calls d).faults };
+      meaning = λ d. record { held = images_of d; faults = (desk_calls d).faults };
     } };
 
     fn read(&mut self) -> Result<Option<Vec<u8>>, DeskFault>
         ensures told { IfOk result (λ o. MatchOption o (image_of self.old ≡ None)
             (λ v. image_of self.old ≡ Some v.items)) }
-        ensures keeps { image_of self.new ≡ image_of self.old }
+        ensures keeps { images_of self.new ≡ images_of self.old }
+        ensures had { HadItsImage (images_of self.new) }
         ensures cause { Caused (desk_calls self.old).faults (desk_calls self.new).faults
             (IsErrOf result DeskFault.Failed) }
         ensures fails { IsErrOf result DeskFault.Failed ↔ IsTrue (is_due (desk_calls self.old)) }
@@ -73,18 +94,23 @@ impl Desk for MemDesk {
         ensures told { Replaces (image_of self.old) (image_of self.new) image.now result }
         ensures cause { Caused (desk_calls self.old).faults (desk_calls self.new).faults
             (IsErr result) }
-        ensures err { OnErr result (image_of self.new ≡ image_of self.old) }
+        ensures came { MayCome (images_of self.old).past image.now (images_of self.new).past }
+        ensures had { HadItsImage (images_of self.new) }
+        ensures puts { OnOk result
+            ((images_of self.new).past ≡ (images_of self.old).past ++ image.now ∷ []) }
+        ensures err { OnErr result (images_of self.new ≡ images_of self.old) }
         ensures counted { Counted (desk_calls self.old) (desk_calls self.new) result }
     {
         if self.calls.begin() {
             return Err(Failed);
         }
-        match image.to_vec(self.alloc) {
-            Ok(copy) => {
-                self.image = Some(copy);
-                Ok(())
-            }
-            Err(_) => {
+        let put = match image.to_vec(self.alloc) {
+            Ok(copy) => self.put(copy),
+            Err(e) => Err(e),
+        };
+        match put {
+            Ok(()) => Ok(()),
+            Err(AllocError) => {
                 self.calls.starve();
                 Err(Failed)
             }

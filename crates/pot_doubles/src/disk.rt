@@ -247,7 +247,7 @@ impl Disk for MemDisk {
     ghost use Rattle.std.specs.Prelude.{◌≡◌, ◌||◌, ℕ, List, true, length, IsErr, IsTrue};
     ghost use Rattle.pot_outside.specs.Counts.{Caused};
     ghost use Rattle.pot_outside.specs.Disks.{ReadsBytes, WritesBytes, SyncsBytes};
-    ghost use Rattle.pot_doubles.specs.Calls.{Answered};
+    ghost use Rattle.pot_doubles.specs.Calls.{AnsweredAsDue};
     ghost use Rattle.pot_doubles.specs.Disks.{changes_of, disk_calls, stop_of, is_stopping};
     ghost use Rattle.pot_doubles.specs.Disks.{first_steps};
 
@@ -261,7 +261,7 @@ impl Disk for MemDisk {
         ensures keeps { changes_of self.new ≡ changes_of self.old }
         ensures cause { Caused (disk_calls self.old).faults (disk_calls self.new).faults
             (IsErr result) }
-        ensures counted { Answered (is_stopping self.old) (first_steps self.old)
+        ensures counted { AnsweredAsDue (is_stopping self.old) (first_steps self.old)
             (disk_calls self.new) result }
         ensures stop { stop_of self.new ≡ stop_of self.old }
     {
@@ -276,7 +276,7 @@ impl Disk for MemDisk {
         ensures told { WritesBytes (changes_of self.old) (changes_of self.new) at from.now result }
         ensures cause { Caused (disk_calls self.old).faults (disk_calls self.new).faults
             (IsErr result) }
-        ensures counted { Answered (is_stopping self.old) (first_steps self.old)
+        ensures counted { AnsweredAsDue (is_stopping self.old) (first_steps self.old)
             (disk_calls self.new) result }
         ensures stop { stop_of self.new ≡ stop_of self.old }
     {
@@ -294,7 +294,7 @@ impl Disk for MemDisk {
         ensures told { SyncsBytes (changes_of self.old) (changes_of self.new) result }
         ensures cause { Caused (disk_calls self.old).faults (disk_calls self.new).faults
             (IsErr result) }
-        ensures counted { Answered (is_stopping self.old) (first_steps self.old)
+        ensures counted { AnsweredAsDue (is_stopping self.old) (first_steps self.old)
             (disk_calls self.new) result }
         ensures stop { stop_of self.new ≡ stop_of self.old }
     {

@@ -4,7 +4,7 @@ ghost use Rattle.std.specs.Option.{option_copied};
 ghost use Rattle.pot_doubles.specs.Calls.{IsFresh};
 ghost use Rattle.pot_doubles.specs.Rooms.{archive_of, meaning_of, means_in, is_out, room_calls};
 ghost use Rattle.pot_doubles.specs.Rooms.{room_fused, failures_of};
-ghost use Rattle.pot_doubles.specs.Rooms.{shelves_of, any_starved, IsFirst, SameAt};
+ghost use Rattle.pot_doubles.specs.Rooms.{shelves_of, any_starved, IsFirst, SameNumber};
 
 use crate::LossyArchive;
 use crate::calls::Calls;
@@ -51,7 +51,7 @@ impl MemRoom {
     pub fn fuse(&mut self, calls: u64) -> Result<(), NoMemory>
         ensures fused { OnOk result (room_fused self.new ≡ true) }
         ensures refused { OnErr result (room_fused self.new ≡ room_fused self.old) }
-        ensures same { (n : ℕ) → SameAt self.old self.new n }
+        ensures same { (n : ℕ) → SameNumber self.old self.new n }
         ensures calls { room_calls self.new ≡ room_calls self.old }
         ensures failures { failures_of self.new ≡ failures_of self.old }
     {
@@ -119,6 +119,7 @@ fn put_back(
     ensures puts { OnOk result (archive_of shelves.new.items number ≡ Some archive) }
     ensures others { (n : ℕ) → n ≢ number →
         archive_of shelves.new.items n ≡ archive_of shelves.old.items n }
+    ensures same { OnErr result (shelves.new.items ≡ shelves.old.items) }
 {
     match exchange(shelves, number, archive) {
         Ok(_taken) => Ok(()),
@@ -153,11 +154,12 @@ impl Room for MemRoom {
     ghost use Rattle.std.specs.Prelude.{◌≡◌, ◌≢◌, ◌||◌, ℕ, true, false, IsErr, IsErrOf, IfOk, OnOk};
     ghost use Rattle.std.specs.Prelude.{OnErr};
     ghost use Rattle.pot_outside.specs.Counts.{Caused, Rose};
-    ghost use Rattle.pot_outside.specs.Archives.{IsMeant};
+    ghost use Rattle.pot_outside.specs.Archives.{IsMeant, IsVacant};
+    ghost use Rattle.pot_outside.specs.Rooms.{MayLose};
     ghost use Rattle.pot_doubles.specs.Archives.{archive_calls, archive_fused, meaning_in};
     ghost use Rattle.pot_doubles.specs.Calls.{covering, raised, AnsweredFused, FailsFused};
     ghost use Rattle.pot_doubles.specs.Rooms.{means_in, is_out, lent_of, room_calls, room_fused};
-    ghost use Rattle.pot_doubles.specs.Rooms.{fused_at, failures_of, SameAt};
+    ghost use Rattle.pot_doubles.specs.Rooms.{fused_at, failures_of, SameNumber};
 
     type A = LossyArchive;
 
@@ -174,9 +176,10 @@ impl Room for MemRoom {
         ensures told { IfOk result (λ a. IsMeant (means_in self.old number) (meaning_in a)) }
         ensures lends { IfOk result (λ a. lent_of self.new number ≡ (archive_calls a).faults) }
         ensures taken { OnOk result (is_out self.new number ≡ true) }
+        ensures vacates { OnOk result (IsVacant (means_in self.new number)) }
         ensures refused { OnErr result (is_out self.new number ≡ false) }
         ensures unchanged { OnErr result (means_in self.new number ≡ means_in self.old number) }
-        ensures others { (n : ℕ) → n ≢ number → SameAt self.old self.new n }
+        ensures others { (n : ℕ) → n ≢ number → SameNumber self.old self.new n }
         ensures cause { Caused (room_calls self.old).faults (room_calls self.new).faults
             (IsErrOf result RoomFault.Failed) }
         ensures own { Caused (failures_of self.old) (failures_of self.new)
@@ -215,8 +218,10 @@ impl Room for MemRoom {
     fn give(&mut self, number: u32, archive: LossyArchive) -> Result<(), Failed>
         requires { is_out self.old number ≡ true }
         ensures told { OnOk result (IsMeant (means_in self.new number) (meaning_in archive)) }
+        ensures lost { OnErr result (MayLose (means_in self.old number) (meaning_in archive)
+            (means_in self.new number)) }
         ensures back { is_out self.new number ≡ false }
-        ensures others { (n : ℕ) → n ≢ number → SameAt self.old self.new n }
+        ensures others { (n : ℕ) → n ≢ number → SameNumber self.old self.new n }
         ensures covers { Rose (lent_of self.old number) (archive_calls archive).faults →
             Rose (room_calls self.old).faults (room_calls self.new).faults }
         ensures cause { Caused (room_calls self.old).faults (room_calls self.new).faults

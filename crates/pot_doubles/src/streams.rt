@@ -117,7 +117,7 @@ impl MemSink {
 impl Sink for MemSink {
     ghost use Rattle.std.specs.Prelude.{◌≡◌, List, ℕ, true, IsErr, IsTrue};
     ghost use Rattle.pot_outside.specs.Counts.{Caused};
-    ghost use Rattle.pot_outside.specs.Streams.{Appends, Within, TakesSome};
+    ghost use Rattle.pot_outside.specs.Streams.{SinkAppends, Within, TakesSome};
     ghost use Rattle.pot_doubles.specs.Calls.{Counted};
     ghost use Rattle.pot_doubles.specs.Streams.{written_to, sink_calls};
 
@@ -127,7 +127,7 @@ impl Sink for MemSink {
     } };
 
     fn write(&mut self, from: &[u8]) -> Result<usize, Failed>
-        ensures told { Appends (written_to self.old) (written_to self.new) from.now result }
+        ensures told { SinkAppends (written_to self.old) (written_to self.new) from.now result }
         ensures within { Within from.now result }
         ensures some { TakesSome from.now result }
         ensures cause { Caused (sink_calls self.old).faults (sink_calls self.new).faults

@@ -6,7 +6,7 @@ ghost use Rattle.pot_group.specs.Group.{view_of};
 ghost use Rattle.pot_rows.specs.Ends.{HasAllParts};
 ghost use Rattle.pot_shared.specs.Ready.{AreReady};
 ghost use Rattle.pot_shared.specs.Catalogs.{IsIndexReady};
-ghost use Rattle.pot_shared.specs.Sharing.{HasAllButKept, IsGroupOf};
+ghost use Rattle.pot_shared.specs.Sharing.{HasAllButKept, IsRackGroup};
 
 use pot_bytes::{Geometry, Rack};
 use pot_doubles::LossyArchive;
@@ -58,7 +58,7 @@ fn member(alloc: Global, rack: &Rack) -> Result<Member<LossyArchive>, Fail>
     requires fits { IsRack rack.now }
     requires one { rack.now.groups ≡ 1 }
     requires parity { rack.now.parity ≡ 1 }
-    ensures { IfOk result (λ m. IsGroupOf rack.now 0 (view_of meaning_in m.group)) }
+    ensures { IfOk result (λ m. IsRackGroup rack.now 0 (view_of meaning_in m.group)) }
 {
     let Ok(table) = GroupTable::empty(alloc, rack, 0) else {
         return Err(Fail::from("no memory"));

@@ -1,15 +1,17 @@
 -- The calls of a group, one after another, and the states that they lead to. They are said of
 -- archives that tell what they hold.
-use Rattle.std.specs.Prelude.{◌≡◌, ◌<◌, ℕ, true, List, [], ◌∷◌, ◌++◌, Option, None, All, Contains}
+use Rattle.std.specs.Prelude.{◌≡◌, ◌<◌, ℕ, true, List, [], ◌∷◌, ◌++◌, Option, None, Some, All}
+use Rattle.std.specs.Prelude.{Contains, slice_get}
 use Rattle.pot_outside.specs.Archives.{IsCoherent, Meaning}
 use Rattle.pot_outside.specs.Counts.{Rose}
 use Rattle.pot_bytes.specs.Lists.{IsBlock}
+use Rattle.pot_machine.specs.declared.entry.Entry.{Entry}
 use Rattle.pot_machine.specs.declared.entry.Entry.TheVariants as entry
 use Rattle.pot_machine.specs.Table.{Table, width, archives_in, serving_at}
 use Rattle.pot_steps.specs.Stripe.{Sound}
 use Rattle.pot_steps.specs.Holdings.{stripe_of}
-use Rattle.pot_steps.specs.GroupStep.{GroupState, StartStep, PutStep, PutAnswer, LookStep, Looked}
-use Rattle.pot_steps.specs.GroupStep.{CountStep}
+use Rattle.pot_steps.specs.GroupStep.{GroupState, StartStep, PutStep, PutAnswer, NotPut}
+use Rattle.pot_steps.specs.GroupStep.{LookStep, Looked, CountStep}
 use Rattle.pot_steps.specs.RelaySteps.{MendStep, MendAnswer, Began}
 use Rattle.pot_steps.specs.MoveSteps.{BringStep, MoveStep, MoveAnswer}
 use Rattle.pot_shelves.specs.Shelves.{Shelves}
@@ -34,14 +36,14 @@ IsAtWork Open = ⊥
 IsAtWork _ = Unit {0}
 
 -- what it asks for
-abbrev pub IsAsked : Call → GroupState → Type 0
-IsAsked (Put job block answer) old = IsBlock block
-IsAsked (Look job s c answer) old = (s < old.table.stripes) × (c < width old.table)
-IsAsked (Mend job s c blind answer) old =
+abbrev pub IsCallAsked : Call → GroupState → Type 0
+IsCallAsked (Put job block answer) old = IsBlock block
+IsCallAsked (Look job s c answer) old = (s < old.table.stripes) × (c < width old.table)
+IsCallAsked (Mend job s c blind answer) old =
     (s < old.table.stripes) × (c < width old.table) × IsBlock blind
-IsAsked (MoveBegin job c to held heard) old = c < width old.table
-IsAsked (Swap job c to held heard) old = c < width old.table
-IsAsked _ old = Unit {0}
+IsCallAsked (MoveBegin job c to held heard) old = c < width old.table
+IsCallAsked (Swap job c to held heard) old = c < width old.table
+IsCallAsked _ old = Unit {0}
 
 -- and its step
 abbrev pub StepOf : Call → GroupState → GroupState → Type 0
@@ -60,7 +62,7 @@ StepOf (Swap job c to held heard) old new =
 abbrev pub Leads : List Call → GroupState → GroupState → Type 0
 Leads [] old new = new ≡ old
 Leads (c ∷ cs) old new =
-    (mid : GroupState) × IsAsked c old × StepOf c old mid × Leads cs mid new
+    (mid : GroupState) × IsCallAsked c old × StepOf c old mid × Leads cs mid new
 
 -- the blind of the relay that a call began, if it began one
 abbrev pub blind_of : Call → List (List ℕ)
@@ -71,6 +73,13 @@ blind_of _ = []
 abbrev pub blinds_of : List Call → List (List ℕ)
 blinds_of [] = []
 blinds_of (c ∷ cs) = blind_of c ++ blinds_of cs
+
+-- A put among these calls was handed this block, and answered that the archive of a column failed;
+-- and the log has at this place the Fault that tells so.
+abbrev pub WasTried : List Call → List Entry → ℕ × List ℕ → Type 0
+WasTried calls log x =
+    (job : ℕ) × (s : ℕ) × (c : ℕ) × Contains calls (Put job x.1 (NotPut c))
+    × (slice_get log x.0 ≡ Some (entry.Fault job s c))
 
 -- The state of a group before its opening: its table is this, it has no log and no flight, each of
 -- its archives holds and has heard what it meant when it was taken, and no other holds or has heard
@@ -118,8 +127,9 @@ GoneOrFailed g start opened opening =
     → FailedInOpening g.shelves (serving_at g.first s c)
 
 -- A group opened its table, once and first of all, and its calls since lead from there to its state
--- now. Its relays had the blinds that they began with, and its archives came as they meant when they
--- were taken. Each then remembered the blocks that it held, and held none from slot 2^32 on.
+-- now. Its relays had the blinds that they began with, and each block that it keeps of a put whose
+-- write failed is the one that the put was handed. Its archives came as they meant when they were
+-- taken. Each then remembered the blocks that it held, and held none from slot 2^32 on.
 pub record HasExecution (g : GroupView) : Type 0 where
   pub start : GroupState
   pub unopened : IsUnopened g.first g.shelves.taken start
@@ -130,5 +140,6 @@ pub record HasExecution (g : GroupView) : Type 0 where
   pub at_work : All IsAtWork calls
   pub leads : Leads calls opened (state_of g)
   pub blinds : blinds_of calls ≡ g.blinds
+  pub tried : (x : ℕ × List ℕ) → Contains g.tried x → WasTried calls g.log x
   pub came : AllCame (had g) g.shelves.taken calls
   pub coherent : (n : ℕ) → IsCoherent (g.shelves.taken n)

@@ -13,8 +13,8 @@ use pot_sealed::Sealed;
 use std::alloc::Global;
 use std::marker::Model;
 
-/// A group of archives whose type keeps an execution: the calls that led to its state. Contracts see
-/// it as a `Group`.
+/// A group of archives whose type keeps an execution: the calls that led to its state. Contracts
+/// see it as a `Group`.
 #[derive(Drop)]
 pub struct TrackedGroup<A: Archive> {
     group: Group<A>,
@@ -35,14 +35,14 @@ impl<A: Archive> Model for TrackedGroup<A> {
 
 impl<A: Archive> TrackedGroup<A> {
     ghost use Rattle.pot_group.specs.Beginning.{Begins};
-    ghost use Rattle.pot_group.specs.Calls.{Makes, PutCall, LookCall, CountCall};
+    ghost use Rattle.pot_group.specs.Calls.{MakesCall, PutCall, LookCall, CountCall};
     ghost use Rattle.pot_group.specs.Calls.{MendCall, MoveBeginCall, MoveStepCall};
     ghost use Rattle.pot_group.specs.Calls.{SwapCall};
     ghost use Rattle.pot_group.specs.Sweeping.{SweepCall};
     ghost use Rattle.pot_bytes.specs.Rack.{log_bound};
     ghost use Rattle.pot_machine.specs.Rules.{IsTable};
     ghost use Rattle.pot_group.specs.Finding.{is_of, IsPlace};
-    ghost use Rattle.pot_group.specs.Standing.{IsStanding};
+    ghost use Rattle.pot_group.specs.Standing.{IsCursorStanding};
     ghost use Rattle.pot_group.specs.Uses.{IsTrace, IsUse};
     ghost use Rattle.pot_group.specs.Group.{view_of, IsSettled};
     ghost use Rattle.pot_shelves.specs.Shelves.{numbers_of};
@@ -77,7 +77,7 @@ impl<A: Archive> TrackedGroup<A> {
     /// Those of `Group::put`.
     pub fn put(&mut self, job: u32, block: &Block) -> Result<Place, PutFault>
         requires job { 0 < job }
-        ensures puts { Makes A.account (λ told. PutCall told job block.now result) self.old
+        ensures puts { MakesCall A.account (λ told. PutCall told job block.now result) self.old
             self.new }
     {
         block_law(block);
@@ -90,7 +90,7 @@ impl<A: Archive> TrackedGroup<A> {
         requires job { 0 < job }
         requires stripe { place.stripe < self.old.table.stripes }
         requires column { place.column < width self.old.table }
-        ensures looks { Makes A.account (λ told. LookCall told job place into.new result)
+        ensures looks { MakesCall A.account (λ told. LookCall told job place into.new result)
             self.old self.new }
     {
         let _settled = self.group.logged();
@@ -100,7 +100,7 @@ impl<A: Archive> TrackedGroup<A> {
     /// As `Group::sweep`.
     pub fn sweep(&mut self, job: u32, stripe: u32, column: u8) -> Swept
         requires job { 0 < job }
-        ensures sweeps { Makes A.account (λ told. SweepCall told job stripe column result)
+        ensures sweeps { MakesCall A.account (λ told. SweepCall told job stripe column result)
             self.old self.new }
     {
         let _settled = self.group.logged();
@@ -113,7 +113,7 @@ impl<A: Archive> TrackedGroup<A> {
     /// Those of `Group::count`.
     pub fn count(&mut self, job: u32) -> Result<Counts, LogFull>
         requires job { 0 < job }
-        ensures counts { Makes A.account (λ told. CountCall told job result) self.old
+        ensures counts { MakesCall A.account (λ told. CountCall told job result) self.old
             self.new }
     {
         let _settled = self.group.logged();
@@ -125,7 +125,7 @@ impl<A: Archive> TrackedGroup<A> {
         requires job { 0 < job }
         requires stripe { place.stripe < self.old.table.stripes }
         requires column { place.column < width self.old.table }
-        ensures mends { Makes A.account (λ told. MendCall told job place blind.now result)
+        ensures mends { MakesCall A.account (λ told. MendCall told job place blind.now result)
             self.old self.new }
     {
         block_law(blind);
@@ -145,7 +145,7 @@ impl<A: Archive> TrackedGroup<A> {
     ) -> Result<(), ShelfRefused<A>>
         requires job { 0 < job }
         requires column { column < width self.old.table }
-        ensures moves { Makes A.account
+        ensures moves { MakesCall A.account
             (λ told. MoveBeginCall told A.account.meaning job column shelf result) self.old
             self.new }
     {
@@ -160,7 +160,7 @@ impl<A: Archive> TrackedGroup<A> {
     pub fn move_step(&mut self, job: u32, column: u8) -> Result<MoveStep, MoveFault>
         requires job { 0 < job }
         requires column { column < width self.old.table }
-        ensures moves { Makes A.account (λ told. MoveStepCall told job column result)
+        ensures moves { MakesCall A.account (λ told. MoveStepCall told job column result)
             self.old self.new }
     {
         let _settled = self.group.logged();
@@ -174,7 +174,7 @@ impl<A: Archive> TrackedGroup<A> {
     pub fn swap(&mut self, job: u32, column: u8, shelf: Shelf<A>) -> Result<u32, ShelfRefused<A>>
         requires job { 0 < job }
         requires column { column < width self.old.table }
-        ensures swaps { Makes A.account
+        ensures swaps { MakesCall A.account
             (λ told. SwapCall told A.account.meaning job column shelf result) self.old
             self.new }
     {
@@ -198,7 +198,7 @@ impl<A: Archive> TrackedGroup<A> {
 
     /// As `Group::standing`.
     pub fn standing(&self) -> Standing
-        ensures { IsStanding self.now.table result }
+        ensures { IsCursorStanding self.now.table result }
     {
         self.group.standing()
     }

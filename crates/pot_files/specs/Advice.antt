@@ -8,7 +8,7 @@ abbrev pub HasAdvice : ℕ → Type 0
 HasAdvice status = IsTrue (list_any (nat_eq status) (4 ∷ 5 ∷ 6 ∷ 8 ∷ 70 ∷ []))
 
 -- the line is printable ASCII, so it is one line, and it tells first what happened
-abbrev pub Tells : List ℕ → List ℕ → Type 0
-Tells happened line =
+abbrev pub TellsAdvice : List ℕ → List ℕ → Type 0
+TellsAdvice happened line =
     IsTrue (starts_with nat_eq line (codes "potshards: " ++ happened ++ codes ": "))
     × IsTrue (list_all (λ byte. nat_lt 31 byte && nat_lt byte 127) line)

@@ -1,15 +1,15 @@
 ghost use Rattle.std.specs.Prelude.{◌≡◌, IsSome, IsSomeAnd, codes};
-ghost use Rattle.pot_files.specs.Advice.{HasAdvice, Tells};
+ghost use Rattle.pot_files.specs.Advice.{HasAdvice, TellsAdvice};
 
 /// The line on standard error for an exit status: what happened, and what to do. None for a status
 /// that says how a session went, which its output tells.
 pub fn advice_at(status: u8) -> Option<&'static str>
     ensures only { IsSome result → HasAdvice status }
-    ensures source { status ≡ 4 → IsSomeAnd result (λ line. Tells (codes "standard input or the system's random bytes could not be read") line.now) }
-    ensures sink { status ≡ 5 → IsSomeAnd result (λ line. Tells (codes "standard output could not be written") line.now) }
-    ensures desk { status ≡ 6 → IsSomeAnd result (λ line. Tells (codes "the desk could not be locked, read or replaced") line.now) }
-    ensures room { status ≡ 8 → IsSomeAnd result (λ line. Tells (codes "an archive file could not be opened, read or synced") line.now) }
-    ensures memory { status ≡ 70 → IsSomeAnd result (λ line. Tells (codes "memory ran out") line.now) }
+    ensures source { status ≡ 4 → IsSomeAnd result (λ line. TellsAdvice (codes "standard input or the system's random bytes could not be read") line.now) }
+    ensures sink { status ≡ 5 → IsSomeAnd result (λ line. TellsAdvice (codes "standard output could not be written") line.now) }
+    ensures desk { status ≡ 6 → IsSomeAnd result (λ line. TellsAdvice (codes "the desk could not be locked, read or replaced") line.now) }
+    ensures room { status ≡ 8 → IsSomeAnd result (λ line. TellsAdvice (codes "an archive file could not be opened, read or synced") line.now) }
+    ensures memory { status ≡ 70 → IsSomeAnd result (λ line. TellsAdvice (codes "memory ran out") line.now) }
 {
     match status {
         4 => Some(

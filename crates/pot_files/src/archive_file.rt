@@ -25,8 +25,9 @@ pub enum Shut {
 }
 
 /// Opens the file of an archive, to be read and written, or to be read alone where the system lets
-/// nobody write it. Answers the file, and whether it may be written. Where there is none it is made,
-/// if it may be, but never behind a link; in a folder in which nobody may make it, it is empty.
+/// nobody write it. Answers the file, and whether it may be written. Where there is none it is
+/// made, if it may be, but never behind a link; in a folder in which nobody may make it, it is
+/// empty.
 ///
 /// A file behind a link is opened only where it looks like an archive's, or is empty: a link that
 /// was mixed up, or laid by another, is not written through to somebody's file.
@@ -61,8 +62,8 @@ fn open_empty(rt: &HostRuntime) -> Result<File, Shut>
 }
 
 /// Whether most slots of a file begin with neither 0 nor 1, at which no slot of an archive begins.
-/// So an archive with some damaged slots, or with a last one that was cut off, is none of these. One
-/// that cannot be read is none.
+/// So an archive with some damaged slots, or with a last one that was cut off, is none of these.
+/// One that cannot be read is none.
 fn is_foreign(file: &File) -> bool {
     let length = file.metadata().map_or(0, |found| found.len());
     let slots = length.div_ceil(SLOT as u64);

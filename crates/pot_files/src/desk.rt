@@ -123,8 +123,8 @@ fn open_desk(rt: &HostRuntime, how: &OpenOptions) -> io::Result<SafeDesk<FileDis
     Ok(SafeDesk::new(rt.alloc(), FileDisk::new(file)))
 }
 
-/// The desk in `desk.pss`, to be read. It is made only behind a link: one that leads to a disk which
-/// is not mounted is a failure, and no desk without an image.
+/// The desk in `desk.pss`, to be read. It is made only behind a link: one that leads to a disk
+/// which is not mounted is a failure, and no desk without an image.
 fn open_to_load(rt: &HostRuntime) -> io::Result<SafeDesk<FileDisk>> {
     if may_be_link(rt, "desk.pss") && fs::metadata(rt, "desk.pss").is_err() {
         open_desk(rt, &as_it_is(true))
@@ -179,14 +179,17 @@ fn sync_folder(rt: &HostRuntime) -> io::Result<()> {
 }
 
 impl Desk for DeskFile {
-    ghost use Rattle.std.specs.Prelude.{◌≡◌, List, ℕ, Option, Some, None, false, OnOk, OnSome};
+    ghost use Rattle.std.specs.Prelude.{◌≡◌, [], None, false, OnOk, OnSome};
     ghost use Rattle.std.specs.Prelude.{IsSome, IfOk, MatchOption, IsTrue, IsErr, IsErrOf};
     ghost use Rattle.pot_outside.specs.Counts.{Caused};
-    ghost use Rattle.pot_outside.specs.Streams.{Replaces};
+    ghost use Rattle.pot_outside.specs.Desks.{MayCome, Replaces};
 
     ghost account = { record {
       tells = false;
-      meaning = λ d. record { held = None; faults = d.faults };
+      meaning = λ d. record {
+        held = record { now = None; past = [] };
+        faults = d.faults;
+      };
     } };
 
     fn read(&mut self) -> Result<Option<Vec<u8>>, DeskFault>

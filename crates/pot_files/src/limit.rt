@@ -1,5 +1,5 @@
-//! The bound that the system sets to the length of a file, as by `ulimit -f`. A write behind it ends
-//! the program by a signal, so it is looked at before.
+//! The bound that the system sets to the length of a file, as by `ulimit -f`. A write behind it
+//! ends the program by a signal, so it is looked at before.
 
 use std::fs;
 

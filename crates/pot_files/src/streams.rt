@@ -98,7 +98,7 @@ fn write_some(stream: &mut Stdout, from: &[u8]) -> Option<usize>
 impl Sink for Output {
     ghost use Rattle.std.specs.Prelude.{◌≡◌, ℕ, List, [], false, IsErr, IsTrue};
     ghost use Rattle.pot_outside.specs.Counts.{Caused};
-    ghost use Rattle.pot_outside.specs.Streams.{Appends, Within, TakesSome};
+    ghost use Rattle.pot_outside.specs.Streams.{SinkAppends, Within, TakesSome};
 
     ghost account = { record {
       tells = false;

@@ -10,7 +10,8 @@ use pot_bytes::NoMemory;
 use pot_client::write_script;
 use std::alloc::Global;
 
-/// The script of a number. A session over the generator's rack reads it as the commands of the definition.
+/// The script of a number. A session over the generator's rack reads it as the commands of the
+/// definition.
 pub fn generate_script(alloc: Global, number: u32) -> Result<Vec<u8>, NoMemory>
     requires { (1 ≤ number) × (number ≤ 1000000) }
     ensures text { IfOk result (λ bytes. bytes.items ≡ script_text (generated number)) }

@@ -1,5 +1,5 @@
--- The laws of the field. Those on two or three elements are computed for single bits, and hold of all by linearity; the
--- inverses are computed for each of the 255 elements.
+-- The laws of the field. Those on two or three elements are computed for single bits, and hold of
+-- all by linearity; the inverses are computed for each of the 255 elements.
 use Rattle.std.proofs.Common.{◌≡◌, ◌⊎◌, inl, inr, ℕ, zero, suc, ◌+◌, ◌%◌, ◌^◌, ◌<◌, true, nat_eq, refl, sym, ap, ap₂, ◌∙◌, arith}
 use Rattle.std.proofs.lemmas.Bool.{eqb-true}
 use Rattle.pot_bytes.specs.Totals.{total}

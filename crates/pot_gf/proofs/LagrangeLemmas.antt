@@ -281,7 +281,8 @@ combined_at points ys j b c d lt =
       | inr more ↦ distinct_apart points j k d more l e
     ]
 
--- Lagrange's form: the value at 0 of a polynomial of degree below m is the sum of weight times value over m points
+-- Lagrange's form: the value at 0 of a polynomial of degree below m is the sum of weight times
+-- value over m points
 pub value-lagrange : (points p : List ℕ) → AreBytes points → AreBytes p → IsDistinct nat_eq points → IsBelowDegree (length points) p
     → value p 0 ≡ total (length points) (λ i. byte_product (lagrange_weight points (get_or points i 0)) (value p (get_or points i 0)))
 unfolding part lagrange_weight

@@ -13,7 +13,8 @@ use Rattle.pot_gf.specs.Polynomials.{value, IsBelowDegree, VanishesAt, PassesThr
 use Rattle.pot_gf.proofs.FieldLemmas.{byte_product-cancel}
 use Rattle.pot_gf.proofs.Values.{byte_product-swap, value-nil, value-cons, value-below, value-zero, added, get_or-added, value-added}
 
--- division by x - a: the quotient of c + x p is the list of the values at a of p and of what follows it
+-- division by x - a: the quotient of c + x p is the list of the values at a of p and of what
+-- follows it
 quotient : ℕ → List ℕ → List ℕ
 quotient a [] = []
 quotient a (c ∷ p) = value (c ∷ p) a ∷ quotient a p

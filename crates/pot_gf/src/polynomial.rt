@@ -130,8 +130,8 @@ impl Poly {
         result
     }
 
-    /// The polynomial of degree at most the number of points that is 1 at 0 and 0 at each of them: the product of
-    /// all 1 + x / a.
+    /// The polynomial of degree at most the number of points that is 1 at 0 and 0 at each of them:
+    /// the product of all 1 + x / a.
     pub fn vanish(points: &[u8]) -> Poly
         requires few { length points.now ≤ 15 }
         requires distinct { IsDistinct nat_eq points.now }

@@ -19,7 +19,7 @@ use Rattle.pot_steps.specs.Flight.{unfolded, weight_in, partial_of}
 use Rattle.pot_steps.specs.Flights.{Acts, flight_in, flights_after, IsFlying, FliesOver, WritesBack, without_flight}
 use Rattle.pot_steps.specs.Holdings.{stripe_of}
 use Rattle.pot_steps.specs.GroupStep.{GroupState}
-use Rattle.pot_steps.specs.RelaySteps.{Logged, Writes, AdvanceStep, Hopped, Ended, Faulted, Idle, HearsSum, Hears, ComesTo, Odd}
+use Rattle.pot_steps.specs.RelaySteps.{Logged, EntryWrites, AdvanceStep, Hopped, Ended, Faulted, Idle, HearsSum, ArchiveHears, ComesTo, Odd}
 use Rattle.pot_steps.proofs.CallLemmas.{stands, next_within, legal_oddly, odd_broken}
 use Rattle.pot_steps.proofs.FlightLists.{relay_of, relay_of_flight, over_stripe}
 use Rattle.pot_shelves.specs.Shelves.{Shelves, LosesByCount, FoldsAt, Shelved, plain, WritesAt, put_at}
@@ -27,7 +27,7 @@ use Rattle.pot_outside.specs.declared.archive.Held.{Held as IsHeld}
 use Rattle.pot_group.specs.Group.{view_of, noted, with_archives, GroupView, GroupParts, IsSettled, state_of}
 use Rattle.pot_shelves.proofs.ShelfLemmas.{loses_refl}
 use Rattle.pot_group.specs.declared.relaying.Advanced.{Advanced}
-use Rattle.pot_group.specs.Relaying.{acted, advance_as, HopsOver, EndsWell}
+use Rattle.pot_group.specs.Relaying.{acted, advance_as, HopsOver, EndsRelay}
 use Rattle.pot_group.specs.declared.relaying.Advanced.TheVariants as advanced
 use Rattle.pot_bytes.specs.declared.digest.Digest.{Digest}
 use Rattle.pot_bytes.specs.Rack.{log_bound}
@@ -63,8 +63,8 @@ module _ (told : Type 0) (g : GroupView) (now : Shelves) (job : ℕ) (f : Flight
   pub gave_up : Legal g.table (GaveUp job f.relay.stripe f.relay.target c)
   gave_up = ((within, (stands g.table f.relay settled.table at).target), subst (λ o. IsSomeAnd o (λ r. (r.target ≡ f.relay.target) × (next_column g.table r ≡ Some c))) (sym at) (refl, next))
 
-  hears_sum : (new : GroupState) → Hears f.relay.stripe c f.sum (state_of g) new → HearsSum f.relay.stripe c (state_of g) new
-  hears_sum new h = subst (λ o. IsSomeAnd o (λ f2. Hears f.relay.stripe c f2.sum (state_of g) new)) (sym here) h
+  hears_sum : (new : GroupState) → ArchiveHears f.relay.stripe c f.sum (state_of g) new → HearsSum f.relay.stripe c (state_of g) new
+  hears_sum new h = subst (λ o. IsSomeAnd o (λ f2. ArchiveHears f.relay.stripe c f2.sum (state_of g) new)) (sym here) h
 
   pub ended_step : (t : told) → (Sound (stripe_of g.table now.held f.relay.stripe) c → ⊥)
       → (IsTrue (is_live (slot_at g.table f.relay.stripe c)) × (now.heard (serving_at g.table f.relay.stripe c) ≡ g.shelves.heard (serving_at g.table f.relay.stripe c) ++ (f.relay.stripe, f.sum) ∷ [])
@@ -228,7 +228,7 @@ module _ (told : Type 0) (g : GroupView) (job : ℕ) (f : Flight) (settled : IsS
 
   -- Mended, and a write that failed
   module _ (block : List ℕ) (is : block ≡ partial_of f) (digest : digest_in (slot_at g.table f.relay.stripe f.relay.target) ≡ Some (digest_of block)) (new : GroupView) where
-    pub well_step : (r : Result Advanced AdvanceFault) → EndsWell told job block f r g new → told → AdvanceStep job f.relay.stripe (advance_as r) (state_of g) (state_of new)
+    pub well_step : (r : Result Advanced AdvanceFault) → EndsRelay told job block f r g new → told → AdvanceStep job f.relay.stripe (advance_as r) (state_of g) (state_of new)
     well_step (Ok advanced.Hopped) m t = absurd m
     well_step (Ok advanced.Ended) m t = absurd m
     well_step (Err failed.LogFull) m t = absurd m
@@ -249,7 +249,7 @@ module _ (told : Type 0) (g : GroupView) (job : ℕ) (f : Flight) (settled : IsS
             (writes_back told g new.shelves job f.relay.stripe f.relay.target f settled room here m.0.legal (digest ∙ ap (λ b. Some (digest_of b)) is)
             (subst (λ b. WritesAt told (serving_at g.table f.relay.stripe f.relay.target) f.relay.stripe b (Ok (tt)) g.shelves new.shelves) is m.1) t);
         loses = (λ n q b e. (subst (λ left. LosesByCount (put_at g.shelves.held (serving_at g.table f.relay.stripe f.relay.target) f.relay.stripe left) g.shelves new.shelves) ((m.1.wrote t).1 ∙ ap Some is) (m.1.wrote t).2 n).keeps q b e);
-        elsewhere = (λ n q b ne e. sym (unwritten (Writes g.table (Mended job f.relay.stripe f.relay.target)) g.shelves.held (serving_at g.table f.relay.stripe f.relay.target) f.relay.stripe (m.1.wrote t).0 (refl, refl) n q ne)
+        elsewhere = (λ n q b ne e. sym (unwritten (EntryWrites g.table (Mended job f.relay.stripe f.relay.target)) g.shelves.held (serving_at g.table f.relay.stripe f.relay.target) f.relay.stripe (m.1.wrote t).0 (refl, refl) n q ne)
             ∙ ((m.1.wrote t).2 n).keeps q b e);
       },
       m.1.heard t,
@@ -266,7 +266,7 @@ module _ (told : Type 0) (g : GroupView) (job : ℕ) (f : Flight) (settled : IsS
         lost = (λ n q b e. e);
         acts = (λ n k b ln lk live h. sym (untouched told g new.shelves job f block settled room here next (m.2.1.wrote t).0 n k lk live) ∙ h);
         loses = (λ n q b e. ((m.2.1.wrote t).2 n).keeps q b e);
-        elsewhere = (λ n q b ne e. sym (unwritten (Writes g.table (Fault job f.relay.stripe column)) g.shelves.held (serving_at g.table f.relay.stripe f.relay.target) f.relay.stripe (m.2.1.wrote t).0
+        elsewhere = (λ n q b ne e. sym (unwritten (EntryWrites g.table (Fault job f.relay.stripe column)) g.shelves.held (serving_at g.table f.relay.stripe f.relay.target) f.relay.stripe (m.2.1.wrote t).0
             (subst (λ k. IsTrue (names (column_at g.table k) (serving_at g.table f.relay.stripe f.relay.target))) (sym m.0) (names_serving (column_at g.table f.relay.target) f.relay.stripe), refl) n q ne)
             ∙ ((m.2.1.wrote t).2 n).keeps q b e);
       },

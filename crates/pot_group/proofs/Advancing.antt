@@ -27,7 +27,7 @@ use Rattle.pot_group.specs.declared.relaying.AdvanceFault.{AdvanceFault}
 use Rattle.pot_group.specs.declared.relaying.AdvanceFault.TheVariants as failed
 use Rattle.pot_shelves.specs.Shelves.{Shelved, Keeps, FoldsAt, LosesByCount, NoneLost, WritesInto, plain, put_at}
 use Rattle.pot_group.specs.Group.{GroupView, GroupParts, IsSettled, noted, view_of, with_archives, state_of}
-use Rattle.pot_group.specs.Relaying.{Acts, Advances, AtEnd, EndsWell, HopsOver, Moves, OnWay, acted}
+use Rattle.pot_group.specs.Relaying.{LogsEntry, Advances, AtEnd, EndsRelay, HopsOver, Moves, OnWay, acted}
 use Rattle.pot_group.proofs.AdvanceSteps.{at_next, absent_exit, dead_exit, failed_exit, fault_legal, gave_up, odd_legal, odd_step, over_exit, some_differs, well_step}
 use Rattle.pot_steps.specs.Mending.{LosesNothing}
 use Rattle.pot_steps.proofs.Acting.{Lessens}
@@ -43,16 +43,16 @@ module _ {A : Type 0} (told : Type 0) (meaning : A → Meaning) (old : GroupPart
   on_way : (P : Flight → ℕ → Type 0) → P f c → OnWay (view_of meaning old) f.relay.stripe P
   on_way P p = subst (λ o. IsSomeAnd o (λ g. IsSomeAnd (next_column old.table g.relay) (P g))) (sym here) (subst (λ o. IsSomeAnd o (P f)) (sym next) p)
 
-  acts : (b : Shelved A) (e : Entry) (given : List ℕ) → Legal old.table e → Acts e given (view_of meaning old) (view_of meaning (acted (with_archives old b) e given))
-  acts b e given legal = record { number = refl; first = refl; legal = legal; table = refl; log = refl; flights = refl; blinds = refl }
+  acts : (b : Shelved A) (e : Entry) (given : List ℕ) → Legal old.table e → LogsEntry e given (view_of meaning old) (view_of meaning (acted (with_archives old b) e given))
+  acts b e given legal = record { number = refl; first = refl; legal = legal; table = refl; log = refl; flights = refl; blinds = refl; tried = refl }
 
   left : Legal old.table (GaveUp job f.relay.stripe f.relay.target c)
   left = gave_up told (view_of meaning old) (view_of meaning old).shelves job f c settled room here next within (λ t. loses_refl (view_of meaning old).shelves)
 
   ends : (b : Shelved A) (new : GroupParts A) → new ≡ acted (with_archives old b) (GaveUp job f.relay.stripe f.relay.target c) []
       → Moves job f.relay.stripe (Ok advanced.Ended) (view_of meaning old) (view_of meaning new)
-  ends b new e = on_way (λ f2 k. Acts (GaveUp job f.relay.stripe f2.relay.target k) [] (view_of meaning old) (view_of meaning new))
-      (subst (λ (w : GroupParts A). Acts (GaveUp job f.relay.stripe f.relay.target c) [] (view_of meaning old) (view_of meaning w)) (sym e) (acts b (GaveUp job f.relay.stripe f.relay.target c) [] left))
+  ends b new e = on_way (λ f2 k. LogsEntry (GaveUp job f.relay.stripe f2.relay.target k) [] (view_of meaning old) (view_of meaning new))
+      (subst (λ (w : GroupParts A). LogsEntry (GaveUp job f.relay.stripe f.relay.target c) [] (view_of meaning old) (view_of meaning w)) (sym e) (acts b (GaveUp job f.relay.stripe f.relay.target c) [] left))
 
   keeps_at : (b : Shelved A) (e : Entry) (given : List ℕ) (new : GroupParts A) → new ≡ acted (with_archives old b) e given → Keeps (plain meaning old.shelves) (plain meaning b) → Keeps (view_of meaning old).shelves (view_of meaning new).shelves
   keeps_at b e given new is k = subst (λ (w : GroupParts A). Keeps (view_of meaning old).shelves (view_of meaning w).shelves) (sym is) k
@@ -105,11 +105,11 @@ module _ {A : Type 0} (told : Type 0) (meaning : A → Meaning) (old : GroupPart
         record {
           moves = on_way (λ f2 c. (sum2 : List ℕ) × IsTrue (is_live (slot_at old.table f.relay.stripe c))
               × (digest_in (slot_at old.table f.relay.stripe c) ≡ Some (digest_of (unfolded (weight_in old.table.data_columns f2.relay c) f2.sum sum2)))
-              × Acts (Hop job f.relay.stripe c) sum2 (view_of meaning old) (view_of meaning new)) (
+              × LogsEntry (Hop job f.relay.stripe c) sum2 (view_of meaning old) (view_of meaning new)) (
                 sum,
                 live,
                 m.0,
-                subst (λ (w : GroupParts A). Acts (Hop job f.relay.stripe c) sum (view_of meaning old) (view_of meaning w)) (sym m.1)
+                subst (λ (w : GroupParts A). LogsEntry (Hop job f.relay.stripe c) sum (view_of meaning old) (view_of meaning w)) (sym m.1)
                     (acts b (Hop job f.relay.stripe c) sum (legal_hop old.table f.relay settled.table (relay_of_flight old.table old.flights f.relay.stripe settled.relays ∙ ap relay_of here) c next job live)),
               );
           keeps = keeps_at b (Hop job f.relay.stripe c) sum new m.1 folds.keeps;
@@ -132,7 +132,7 @@ module _ {A : Type 0} (told : Type 0) (meaning : A → Meaning) (old : GroupPart
     failed_advances new e is folds = record {
       moves = (
         subst (λ (w : GroupParts A). Rose ((plain meaning old.shelves).faults (serving_at old.table f.relay.stripe c)) ((plain meaning w.shelves).faults (serving_at old.table f.relay.stripe c))) (sym is) (folds.cause refl),
-        subst (λ (w : GroupParts A). Acts (Fault job f.relay.stripe c) [] (view_of meaning old) (view_of meaning w)) (sym is)
+        subst (λ (w : GroupParts A). LogsEntry (Fault job f.relay.stripe c) [] (view_of meaning old) (view_of meaning w)) (sym is)
             (acts b (Fault job f.relay.stripe c) [] (fault_legal told (view_of meaning old) (view_of meaning old).shelves job f c settled room here next within (λ t. loses_refl (view_of meaning old).shelves))),
         inl (on_way (λ f2 k. (k ≡ c) × IsTrue (is_live (slot_at old.table f.relay.stripe k))) (refl, live)),
       );
@@ -153,7 +153,7 @@ module _ (told : Type 0) (g : GroupView) (job : ℕ) (f : Flight) (settled : IsS
       → Advances told job f.relay.stripe (Err (failed.Odd wanted found)) g (record g { table = t; log = log; flights = fs })
   odd_advances e wanted found t log fs m el ef = record {
     moves = at_end (λ f2. (digest_in (slot_at g.table f.relay.stripe f2.relay.target) ≡ Some wanted) × (found ≡ digest_of (partial_of f2)) × (wanted ≢ found)
-        × Acts (Oddly job f.relay.stripe f2.relay.target found) [] g (record g { table = t; log = log; flights = fs })) (
+        × LogsEntry (Oddly job f.relay.stripe f2.relay.target found) [] g (record g { table = t; log = log; flights = fs })) (
           m.4,
           m.2,
           m.3,
@@ -165,6 +165,7 @@ module _ (told : Type 0) (g : GroupView) (job : ℕ) (f : Flight) (settled : IsS
             log = el ∙ ap (λ e. g.log ++ e ∷ []) m.0;
             flights = ef;
             blinds = refl;
+            tried = refl;
           },
         );
     keeps = keeps_refl g.shelves;
@@ -175,14 +176,14 @@ module _ (told : Type 0) (g : GroupView) (job : ℕ) (f : Flight) (settled : IsS
   }
 
   module _ (block : List ℕ) (is : block ≡ partial_of f) (digest : digest_in (slot_at g.table f.relay.stripe f.relay.target) ≡ Some (digest_of block)) (new : GroupView) where
-    pub well_advances : (r : Result Advanced AdvanceFault) → EndsWell told job block f r g new → Advances told job f.relay.stripe r g new
+    pub well_advances : (r : Result Advanced AdvanceFault) → EndsRelay told job block f r g new → Advances told job f.relay.stripe r g new
     well_advances (Ok advanced.Hopped) m = absurd m
     well_advances (Ok advanced.Ended) m = absurd m
     well_advances (Err failed.LogFull) m = absurd m
     well_advances (Err failed.Idle) m = absurd m
     well_advances (Err (failed.Odd wanted found)) m = absurd m
     well_advances (Ok advanced.Mended) m = record {
-      moves = at_end (λ f2. (digest_in (slot_at g.table f.relay.stripe f2.relay.target) ≡ Some (digest_of (partial_of f2))) × Acts (Mended job f.relay.stripe f2.relay.target) [] g new)
+      moves = at_end (λ f2. (digest_in (slot_at g.table f.relay.stripe f2.relay.target) ≡ Some (digest_of (partial_of f2))) × LogsEntry (Mended job f.relay.stripe f2.relay.target) [] g new)
           (digest ∙ ap (λ b. Some (digest_of b)) is, m.0);
       keeps = m.1.keeps;
       steps = well_step told g job f settled room here next block is digest new (Ok advanced.Mended) m;

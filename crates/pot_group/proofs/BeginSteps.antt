@@ -10,7 +10,7 @@ use Rattle.pot_machine.specs.declared.entry.Entry.TheVariants.{Begin, Stuck}
 use Rattle.pot_machine.specs.Slot.{is_unsound, is_lost, is_broken}
 use Rattle.pot_machine.specs.Table.{Table, width, slot_at, relay_at, first, first_beside, count_beside}
 use Rattle.pot_machine.specs.Rules.{IsTable}
-use Rattle.pot_machine.specs.Machine.{Legal, after, stuck_by, IsRebuilt}
+use Rattle.pot_machine.specs.Machine.{Legal, after, stuck_by, MayBeRebuilt}
 use Rattle.pot_machine.proofs.Searches.{least_none, none_counted, count_none, none_least}
 use Rattle.pot_steps.proofs.Steps.{count-le}
 use Rattle.pot_bytes.specs.Lists.{IsBlock}
@@ -90,7 +90,7 @@ module _ (t : Table) (s c : ℕ) (is : IsTable t) (within : s < t.stripes) (colu
       sound : first_beside t s c is_unsound ≡ None
       sound = none_counted (width t) (λ k. not (k == c) && is_unsound (slot_at t s k)) (let f : count_beside t s c is_unsound < t.parity = few ways.1 in let p : t.parity ≡ 1 = single e in omega arith)
 
-  rebuilt : ((t.parity == 2) ≡ false) ⊎ (first t s is_broken ≡ None) → IsRebuilt t s c
+  rebuilt : ((t.parity == 2) ≡ false) ⊎ (first t s is_broken ≡ None) → MayBeRebuilt t s c
   rebuilt (inl e) = rebuilt_one (slot_at t s c) (t.parity ≡ 1) unsound (λ b. single e)
   rebuilt (inr e) = rebuilt_one (slot_at t s c) (t.parity ≡ 1) unsound (λ b. absurd (no (least_none (width t) (λ j. is_broken (slot_at t s j)) e c column) b))
     where

@@ -61,6 +61,7 @@ module _ (told : Type 0) (g : GroupView) (number : ℕ) (meant : Meaning) (s : S
   pub settled_brings : IsSettled told (record g { shelves = s })
   settled_brings = record {
     blinds = settled.blinds;
+    tried = settled.tried;
     heard = (λ t. heard_brings told g.first g.log g.blinds g.flights number meant g.shelves s b (settled.heard t));
     frame = (λ t. framed_brings told g.first g.log number meant g.shelves s b (settled.frame t));
     replay = settled.replay;

@@ -1,12 +1,15 @@
 -- What a group's archives may hold, over losses, over an archive that comes and over the entries of
 -- its calls.
-use Rattle.std.proofs.Common.{◌≡◌, ◌≢◌, ◌⊎◌, inl, inr, ℕ, ◌≤◌, ◌++◌, List, [], ◌∷◌, Option, Some, None, Bool, true, false, refl, sym, ap, ◌∙◌, subst}
-use Rattle.std.specs.Prelude.{Contains, Result, Ok, Err}
-use Rattle.std.proofs.lemmas.Bool.{cases_eq}
+use Rattle.std.proofs.Common.{◌≡◌, ◌≢◌, ◌⊎◌, inl, inr, ℕ, suc, ◌+◌, ◌<◌, ◌≤◌, ◌==◌, ◌++◌, List, [], ◌∷◌, Option, Some, None, Bool, true, false, length, refl, sym, ap, ◌∙◌, subst, arith, length-append}
+use Rattle.std.specs.Prelude.{Contains, Result, Ok, Err, if◌then◌else◌}
+use Rattle.std.proofs.lemmas.Bool.Decides.{nat_tests}
+use Rattle.std.proofs.lemmas.Bool.{cases_eq, eq-eqb}
 use Rattle.std.proofs.lemmas.List.Elements.{Contains-push_cases}
+use Rattle.pot_bytes.proofs.Elements.{contains_later}
 use Rattle.pot_outside.specs.Archives.{Meaning, Remembers}
 use Rattle.pot_outside.specs.declared.faults.Failed.{Failed}
 use Rattle.pot_machine.specs.declared.entry.Entry.{Entry}
+use Rattle.pot_machine.specs.declared.entry.Entry.TheVariants as entry
 use Rattle.pot_machine.specs.Table.{Table}
 use Rattle.pot_machine.specs.Machine.{Replays, after}
 use Rattle.pot_steps.specs.Holdings.{Holdings}
@@ -14,18 +17,76 @@ use Rattle.pot_shelves.specs.Shelves.{Shelves, Keeps, Brings, LosesByCount, Writ
 use Rattle.pot_outside.specs.Counts.{Rose}
 use Rattle.pot_doubles.proofs.CallLemmas.{rose_later}
 use Rattle.pot_shelves.proofs.ShelfLemmas.{lost_rose, rose_more, put_at-here, put_at-other}
-use Rattle.pot_group.specs.Frames.{MayFail, MayWrite, FailedBy, WrittenBy, IsFramed}
+use Rattle.pot_group.specs.Frames.{Tries, ArePlaced, tried_at, MayFail, MayWrite, FailedBy, WrittenBy, IsFramed}
 
 -- ONE ENTRY MORE
 
-written_more : (t : Table) (log : List Entry) (e : Entry) (n m : ℕ) (b : List ℕ) → WrittenBy t log n m b → WrittenBy t (log ++ e ∷ []) n m b
-written_more t [] e n m b h = absurd h
-written_more t (x ∷ log) e n m b (inl h) = inl h
-written_more t (x ∷ log) e n m b (inr h) = inr (written_more (after t x) log e n m b h)
+-- the blocks of puts that there are still
+abbrev pub AreIn : Tries → Tries → Type 0
+AreIn few more = (i : ℕ) (b : List ℕ) → tried_at few i ≡ Some b → tried_at more i ≡ Some b
 
-written_last : (t u : Table) (log : List Entry) (e : Entry) (n m : ℕ) (b : List ℕ) → Replays t log u → MayWrite u e n m b → WrittenBy t (log ++ e ∷ []) n m b
-written_last t u [] e n m b r h = inl (subst (λ v. MayWrite v e n m b) r h)
-written_last t u (x ∷ log) e n m b r h = inr (written_last (after t x) u log e n m b r.1 h)
+pub tried_front : (few more : Tries) → AreIn few (few ++ more)
+tried_front [] more i b h = absurd (cc)
+tried_front ((n, c) ∷ few) more i b h = either (n == i) (tried_front few more i b) h
+  where
+    either : (same : Bool) → (tried_at few i ≡ Some b → tried_at (few ++ more) i ≡ Some b) → (if same then Some c else tried_at few i) ≡ Some b
+        → (if same then Some c else tried_at (few ++ more) i) ≡ Some b
+    either true rest h = h
+    either false rest h = rest h
+
+-- the block of a put at an entry behind those of the others
+pub tried_last : (tried : Tries) (n : ℕ) (b : List ℕ) → ((x : ℕ × List ℕ) → Contains tried x → x.0 < n) → tried_at (tried ++ (n, b) ∷ []) n ≡ Some b
+tried_last [] n b below = ap (λ same. if same then Some b else None) (eq-eqb n n refl)
+tried_last ((k, c) ∷ tried) n b below =
+    ap (λ same. if same then Some c else tried_at (tried ++ (n, b) ∷ []) n) (other k n (below (k, c) (0, omega arith, refl)))
+    ∙ tried_last tried n b (λ x h. below x (contains_later (k, c) x tried h))
+  where
+    other : (k n : ℕ) → k < n → (k == n) ≡ false
+    other k n lt = grind (arith, nat_tests)
+
+-- and one more
+pub placed_more : (tried : Tries) (n : ℕ) (b : List ℕ) → ArePlaced tried n → ArePlaced (tried ++ (n, b) ∷ []) (n + 1)
+placed_more tried n b placed = record {
+  few = (let l : length (tried ++ (n, b) ∷ []) ≡ length tried + 1 = length-append tried ((n, b) ∷ []) in omega (arith, placed.few));
+  below = λ x h. elim (Contains-push_cases tried (n, b) x h) [
+    | inl y ↦ (let l : x.0 < n = placed.below x y in omega (arith, l))
+    | inr y ↦ subst (λ (z : ℕ × List ℕ). z.0 < n + 1) y (omega arith)
+  ];
+}
+
+pub placed_later : (tried : Tries) (n : ℕ) → ArePlaced tried n → ArePlaced tried (n + 1)
+placed_later tried n placed = record { few = omega (arith, placed.few); below = λ x h. (let l : x.0 < n = placed.below x h in omega (arith, l)) }
+
+may_still : (few more : Tries) (i : ℕ) (t : Table) (e : Entry) (n m : ℕ) (b : List ℕ) → AreIn few more → MayWrite few i t e n m b → MayWrite more i t e n m b
+may_still few more i t (entry.Fault job s c) n m b are (es, into, inl h) = (es, into, inl (h.0, are i b h.1))
+may_still few more i t (entry.Fault job s c) n m b are (es, into, inr h) = (es, into, inr h)
+may_still few more i t (entry.Put job s c digest parity_digest kept) n m b are h = h
+may_still few more i t (entry.Put2 job s c digest parity_digest second_digest kept kept2) n m b are h = h
+may_still few more i t (entry.Mended job s c) n m b are h = h
+may_still few more i t (entry.Moved job s c copied) n m b are h = h
+may_still few more i t _ n m b are h = absurd h
+
+written_more : (few more : Tries) (i : ℕ) (t : Table) (log : List Entry) (e : Entry) (n m : ℕ) (b : List ℕ) → AreIn few more → WrittenBy few i t log n m b → WrittenBy more i t (log ++ e ∷ []) n m b
+written_more few more i t [] e n m b are h = absurd h
+written_more few more i t (x ∷ log) e n m b are (inl h) = inl (may_still few more i t x n m b are h)
+written_more few more i t (x ∷ log) e n m b are (inr h) = inr (written_more few more (suc i) (after t x) log e n m b are h)
+
+written_from : (tried : Tries) (i k : ℕ) (t u : Table) (log : List Entry) (e : Entry) (n m : ℕ) (b : List ℕ) → Replays t log u → k ≡ i + length log → MayWrite tried k u e n m b
+    → WrittenBy tried i t (log ++ e ∷ []) n m b
+written_from tried i k t u [] e n m b r is h = inl (subst (λ v. MayWrite tried i v e n m b) r (subst (λ j. MayWrite tried j u e n m b) (is ∙ none i) h))
+  where
+    none : (i : ℕ) → i + 0 ≡ i
+    none i = omega arith
+written_from tried i k t u (x ∷ log) e n m b r is h = inr (written_from tried (suc i) k (after t x) u log e n m b r.1 (is ∙ one i (length log)) h)
+  where
+    one : (i l : ℕ) → i + suc l ≡ suc i + l
+    one i l = omega arith
+
+written_last : (tried : Tries) (t u : Table) (log : List Entry) (e : Entry) (n m : ℕ) (b : List ℕ) → Replays t log u → MayWrite tried (length log) u e n m b → WrittenBy tried 0 t (log ++ e ∷ []) n m b
+written_last tried t u log e n m b r h = written_from tried 0 (length log) t u log e n m b r (zero (length log)) h
+  where
+    zero : (l : ℕ) → l ≡ 0 + l
+    zero l = omega arith
 
 failed_more : (t : Table) (log : List Entry) (e : Entry) (n m : ℕ) → FailedBy t log n m → FailedBy t (log ++ e ∷ []) n m
 failed_more t [] e n m h = absurd h
@@ -43,9 +104,9 @@ IsFull h n m = (x : List ℕ) × (h n m ≡ Some x)
 -- What the archives were to hold after an entry, and what they remember then, was held and
 -- remembered before, or the entry may have written it. And a slot that had a block was to have one,
 -- or the entry tells of a write that failed there.
-pub record Frames (t : Table) (e : Entry) (old : Shelves) (h : Holdings) (new : Shelves) : Type 0 where
-  pub held : (n m : ℕ) (b : List ℕ) → h n m ≡ Some b → (old.held n m ≡ Some b) ⊎ MayWrite t e n m b
-  pub history : (n : ℕ) (b : List ℕ) → Contains (new.history n) b → Contains (old.history n) b ⊎ ((m : ℕ) × MayWrite t e n m b)
+pub record Frames (tried : Tries) (i : ℕ) (t : Table) (e : Entry) (old : Shelves) (h : Holdings) (new : Shelves) : Type 0 where
+  pub held : (n m : ℕ) (b : List ℕ) → h n m ≡ Some b → (old.held n m ≡ Some b) ⊎ MayWrite tried i t e n m b
+  pub history : (n : ℕ) (b : List ℕ) → Contains (new.history n) b → Contains (old.history n) b ⊎ ((m : ℕ) × MayWrite tried i t e n m b)
   pub full : (n m : ℕ) (b : List ℕ) → old.held n m ≡ Some b → IsFull h n m ⊎ MayFail t e n m
 
 -- a count of losses that rose before has risen after, and so it has where a block went
@@ -60,10 +121,10 @@ module _ (h : Holdings) (a b : Shelves) (keeps : Keeps a b) (loses : LosesByCoun
   ]
 
 -- the archives only lose blocks
-pub framed_loses : (first : Table) (log : List Entry) (a b : Shelves) → Keeps a b → LosesByCount a.held a b → ((n : ℕ) → a.losses_taken n ≤ a.losses n) → ((n : ℕ) → b.history n ≡ a.history n) → IsFramed first log a → IsFramed first log b
-framed_loses first log a b keeps loses marked same f = record {
-  held = λ n m x h. subst (λ (k : Meaning). (k.held m ≡ Some x) ⊎ WrittenBy first log n m x) (sym (keeps.taken n)) (f.held n m x ((loses n).keeps m x h));
-  history = λ n x h. subst (λ (k : Meaning). Contains k.history x ⊎ ((m : ℕ) × WrittenBy first log n m x)) (sym (keeps.taken n)) (f.history n x (subst (λ l. Contains l x) (same n) h));
+pub framed_loses : {tried : Tries} (first : Table) (log : List Entry) (a b : Shelves) → Keeps a b → LosesByCount a.held a b → ((n : ℕ) → a.losses_taken n ≤ a.losses n) → ((n : ℕ) → b.history n ≡ a.history n) → IsFramed first log tried a → IsFramed first log tried b
+framed_loses {tried} first log a b keeps loses marked same f = record {
+  held = λ n m x h. subst (λ (k : Meaning). (k.held m ≡ Some x) ⊎ WrittenBy tried 0 first log n m x) (sym (keeps.taken n)) (f.held n m x ((loses n).keeps m x h));
+  history = λ n x h. subst (λ (k : Meaning). Contains k.history x ⊎ ((m : ℕ) × WrittenBy tried 0 first log n m x)) (sym (keeps.taken n)) (f.history n x (subst (λ l. Contains l x) (same n) h));
   kept = λ n m x h. elim (f.kept n m x (sym (ap (λ (k : Meaning). k.held m) (keeps.taken n)) ∙ h)) [
     | inl y ↦ elim (full_on a.held a b keeps loses marked n m y.0 y.1) [ inl z ↦ inl z | inr z ↦ inr (inr z) ]
     | inr y ↦ elim y [ inl z ↦ inr (inl z) | inr z ↦ inr (inr (rose_on a.held a b keeps loses marked n z)) ]
@@ -71,15 +132,15 @@ framed_loses first log a b keeps loses marked same f = record {
 }
 
 -- one entry, with losses after it
-pub framed_entry : (first t : Table) (log : List Entry) (e : Entry) (a b : Shelves) (h : Holdings) → Replays first log t → Keeps a b → LosesByCount h a b → ((n : ℕ) → a.losses_taken n ≤ a.losses n) → Frames t e a h b → IsFramed first log a → IsFramed first (log ++ e ∷ []) b
-framed_entry first t log e a b h replay keeps loses marked frames f = record {
-  held = λ n m x q. subst (λ (k : Meaning). (k.held m ≡ Some x) ⊎ WrittenBy first (log ++ e ∷ []) n m x) (sym (keeps.taken n)) (elim (frames.held n m x ((loses n).keeps m x q)) [
-    | inl before ↦ elim (f.held n m x before) [ inl y ↦ inl y | inr y ↦ inr (written_more first log e n m x y) ]
-    | inr now ↦ inr (written_last first t log e n m x replay now)
+pub framed_entry : {few more : Tries} (first t : Table) (log : List Entry) (e : Entry) (a b : Shelves) (h : Holdings) → Replays first log t → Keeps a b → LosesByCount h a b → ((n : ℕ) → a.losses_taken n ≤ a.losses n) → AreIn few more → Frames more (length log) t e a h b → IsFramed first log few a → IsFramed first (log ++ e ∷ []) more b
+framed_entry {few} {more} first t log e a b h replay keeps loses marked are frames f = record {
+  held = λ n m x q. subst (λ (k : Meaning). (k.held m ≡ Some x) ⊎ WrittenBy more 0 first (log ++ e ∷ []) n m x) (sym (keeps.taken n)) (elim (frames.held n m x ((loses n).keeps m x q)) [
+    | inl before ↦ elim (f.held n m x before) [ inl y ↦ inl y | inr y ↦ inr (written_more few more 0 first log e n m x are y) ]
+    | inr now ↦ inr (written_last more first t log e n m x replay now)
   ]);
-  history = λ n x q. subst (λ (k : Meaning). Contains k.history x ⊎ ((m : ℕ) × WrittenBy first (log ++ e ∷ []) n m x)) (sym (keeps.taken n)) (elim (frames.history n x q) [
-    | inl before ↦ elim (f.history n x before) [ inl y ↦ inl y | inr y ↦ inr (y.0, written_more first log e n y.0 x y.1) ]
-    | inr now ↦ inr (now.0, written_last first t log e n now.0 x replay now.1)
+  history = λ n x q. subst (λ (k : Meaning). Contains k.history x ⊎ ((m : ℕ) × WrittenBy more 0 first (log ++ e ∷ []) n m x)) (sym (keeps.taken n)) (elim (frames.history n x q) [
+    | inl before ↦ elim (f.history n x before) [ inl y ↦ inl y | inr y ↦ inr (y.0, written_more few more 0 first log e n y.0 x are y.1) ]
+    | inr now ↦ inr (now.0, written_last more first t log e n now.0 x replay now.1)
   ]);
   kept = λ n m x q. elim (f.kept n m x (sym (ap (λ (k : Meaning). k.held m) (keeps.taken n)) ∙ q)) [
     | inl y ↦ elim (frames.full n m y.0 y.1) [
@@ -91,19 +152,19 @@ framed_entry first t log e a b h replay keeps loses marked frames f = record {
 }
 
 -- an entry that writes nothing, over archives that stay
-pub frames_still : (t : Table) (e : Entry) (s : Shelves) → Frames t e s s.held s
+pub frames_still : {tried : Tries} {i : ℕ} (t : Table) (e : Entry) (s : Shelves) → Frames tried i t e s s.held s
 frames_still t e s = record { held = λ n m b h. inl h; history = λ n b h. inl h; full = λ n m b h. inl (b, h) }
 
 -- an archive that comes has what it was taken with
-pub framed_brings : (told : Type 0) (first : Table) (log : List Entry) (number : ℕ) (meant : Meaning) (a b : Shelves) → Brings told number meant a b → IsFramed first log a → IsFramed first log b
-framed_brings told first log number meant a b brings f = record {
+pub framed_brings : {tried : Tries} (told : Type 0) (first : Table) (log : List Entry) (number : ℕ) (meant : Meaning) (a b : Shelves) → Brings told number meant a b → IsFramed first log tried a → IsFramed first log tried b
+framed_brings {tried} told first log number meant a b brings f = record {
   held = λ n m x h. elim (cases_eq n number) [
     | inl e ↦ inl (subst (λ k. (b.taken k).held m ≡ Some x) (sym e) (ap (λ (k : Meaning). k.held m) brings.taken ∙ sym (brings.blocks m) ∙ ap (λ k. b.held k m) (sym e) ∙ h))
-    | inr ne ↦ subst (λ (k : Meaning). (k.held m ≡ Some x) ⊎ WrittenBy first log n m x) (sym (brings.same_taken n ne)) (f.held n m x (sym (brings.same_held n m ne) ∙ h))
+    | inr ne ↦ subst (λ (k : Meaning). (k.held m ≡ Some x) ⊎ WrittenBy tried 0 first log n m x) (sym (brings.same_taken n ne)) (f.held n m x (sym (brings.same_held n m ne) ∙ h))
   ];
   history = λ n x h. elim (cases_eq n number) [
     | inl e ↦ inl (subst (λ k. Contains (b.taken k).history x) (sym e) (subst (λ l. Contains l x) (ap (λ k. b.history k) e ∙ brings.history ∙ sym (ap (λ (k : Meaning). k.history) brings.taken)) h))
-    | inr ne ↦ subst (λ (k : Meaning). Contains k.history x ⊎ ((m : ℕ) × WrittenBy first log n m x)) (sym (brings.same_taken n ne)) (f.history n x (subst (λ l. Contains l x) (brings.same_history n ne) h))
+    | inr ne ↦ subst (λ (k : Meaning). Contains k.history x ⊎ ((m : ℕ) × WrittenBy tried 0 first log n m x)) (sym (brings.same_taken n ne)) (f.history n x (subst (λ l. Contains l x) (brings.same_history n ne) h))
   ];
   kept = λ n m x h. elim (cases_eq n number) [
     | inl e ↦ inl (x, ap (λ k. b.held k m) e ∙ brings.blocks m ∙ sym (ap (λ (k : Meaning). k.held m) (ap b.taken e ∙ brings.taken)) ∙ h)
@@ -179,9 +240,9 @@ remembers_frames number block r a b remembers others n x h = elim (cases_eq n nu
     there (Err f) (inr e) h = pushed e h
 
 -- an entry that may have written this block into this slot, over archives that did
-pub frames_write : (told : Type 0) (t : Table) (e : Entry) (number slot : ℕ) (block : List ℕ) (r : Result (Unit {0}) Failed) (a b : Shelves) → told → (w : WritesAt told number slot block r a b)
-    → MayWrite t e number slot block → (left : Option (List ℕ)) → (went : Bool) → (went ≡ false → MayFail t e number slot) → WriteLeaves went (a.held number slot) block left → Frames t e a (put_at a.held number slot left) b
-frames_write told t e number slot block r a b z w may left went fails leaves = record {
+pub frames_write : {tried : Tries} {i : ℕ} (told : Type 0) (t : Table) (e : Entry) (number slot : ℕ) (block : List ℕ) (r : Result (Unit {0}) Failed) (a b : Shelves) → told → (w : WritesAt told number slot block r a b)
+    → MayWrite tried i t e number slot block → (left : Option (List ℕ)) → (went : Bool) → (went ≡ false → MayFail t e number slot) → WriteLeaves went (a.held number slot) block left → Frames tried i t e a (put_at a.held number slot left) b
+frames_write {tried} {i} told t e number slot block r a b z w may left went fails leaves = record {
   held = λ n m x h. elim (put_frames a.held number slot block went left leaves n m x h) [
     | inl y ↦ inl y
     | inr y ↦ inr (here n m x y.0 y.1 y.2)
@@ -196,5 +257,5 @@ frames_write told t e number slot block r a b z w may left went fails leaves = r
   ];
 }
   where
-    here : (n m : ℕ) (x : List ℕ) → n ≡ number → m ≡ slot → x ≡ block → MayWrite t e n m x
-    here n m x en em ex = subst (λ n. MayWrite t e n m x) (sym en) (subst (λ m. MayWrite t e number m x) (sym em) (subst (λ x. MayWrite t e number slot x) (sym ex) may))
+    here : (n m : ℕ) (x : List ℕ) → n ≡ number → m ≡ slot → x ≡ block → MayWrite tried i t e n m x
+    here n m x en em ex = subst (λ n. MayWrite tried i t e n m x) (sym en) (subst (λ m. MayWrite tried i t e number m x) (sym em) (subst (λ x. MayWrite tried i t e number slot x) (sym ex) may))

@@ -14,7 +14,7 @@ use Rattle.pot_machine.specs.Machine.{Replays, after}
 use Rattle.pot_steps.specs.declared.flight.Flight.{Flight}
 use Rattle.pot_steps.specs.Flights.{flight_in, flights_after}
 use Rattle.pot_shelves.specs.Shelves.{Shelves, Keeps, Brings}
-use Rattle.pot_group.specs.Heard.{Sum, Gives, FlyBy, IsSumOf, FoldedBy, HasHeard, begins, blinds_in, blinds_after}
+use Rattle.pot_group.specs.Heard.{Sum, GivesBlock, FlyBy, IsSumOf, FoldedBy, HasHeard, begins, blinds_in, blinds_after}
 use Rattle.pot_group.proofs.CauseLemmas.{OfOpening}
 
 -- HOW MANY BLINDS
@@ -51,9 +51,9 @@ folded_now t u fs us [] gs n x r f h = subst (λ v. IsSumOf v fs n x) r (subst (
 folded_now t u fs us (y ∷ log) [] n x r f h = absurd f
 folded_now t u fs us (y ∷ log) (g ∷ gs) n x r f h = inr (folded_now (after t y) u (flights_after t y g fs) us log gs n x r.1 f.1 h)
 
-fly_more : (t u : Table) (fs us : List Flight) (log : List Entry) (gs : List (List ℕ)) (e : Entry) (given : List ℕ) → Replays t log u → FlyBy t fs log gs us → Gives u us e given
+fly_more : (t u : Table) (fs us : List Flight) (log : List Entry) (gs : List (List ℕ)) (e : Entry) (given : List ℕ) → Replays t log u → FlyBy t fs log gs us → GivesBlock u us e given
     → FlyBy t fs (log ++ e ∷ []) (gs ++ given ∷ []) (flights_after u e given us)
-fly_more t u fs us [] [] e given r f g = (subst (λ v. Gives v fs e given) r (subst (λ ws. Gives u ws e given) f.1 g), (refl, ap₂ (λ v ws. flights_after v e given ws) r f.1))
+fly_more t u fs us [] [] e given r f g = (subst (λ v. GivesBlock v fs e given) r (subst (λ ws. GivesBlock u ws e given) f.1 g), (refl, ap₂ (λ v ws. flights_after v e given ws) r f.1))
 fly_more t u fs us [] (y ∷ gs) e given r f g = absurd (no f.0)
   where
     no : y ∷ gs ≡ [] → ⊥
@@ -96,7 +96,7 @@ heard_on first t log bs fs a b replay keeps new h = record {
 }
 
 -- one entry, over archives that heard nothing
-pub heard_entry : (first t : Table) (log : List Entry) (e : Entry) (given : List ℕ) (bs : List (List ℕ)) (fs : List Flight) (a b : Shelves) → Replays first log t → Keeps a b → ((n : ℕ) → b.heard n ≡ a.heard n) → Gives t fs e given → HasHeard first log bs fs a
+pub heard_entry : (first t : Table) (log : List Entry) (e : Entry) (given : List ℕ) (bs : List (List ℕ)) (fs : List Flight) (a b : Shelves) → Replays first log t → Keeps a b → ((n : ℕ) → b.heard n ≡ a.heard n) → GivesBlock t fs e given → HasHeard first log bs fs a
     → HasHeard first (log ++ e ∷ []) (blinds_after e given bs) (flights_after t e given fs) b
 heard_entry first t log e given bs fs a b replay keeps same gives h = record {
   givens = h.givens ++ given ∷ [];

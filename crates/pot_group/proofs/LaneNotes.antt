@@ -14,7 +14,7 @@ use Rattle.pot_machine.specs.Table.{slot_at, serving_at}
 use Rattle.pot_machine.specs.Machine.{InRange, Legal, after}
 use Rattle.pot_steps.specs.Holdings.{stripe_of}
 use Rattle.pot_steps.specs.Stripe.{Sound as IsSoundAt}
-use Rattle.pot_shelves.specs.Shelves.{Shelves, Stays}
+use Rattle.pot_shelves.specs.Shelves.{Shelves, ShelvesStay}
 use Rattle.pot_group.specs.declared.lanes.Lane.{Lane}
 use Rattle.pot_group.specs.declared.reads.Found.{Found}
 use Rattle.pot_group.specs.declared.reads.Found.TheVariants.{Sound, Missing, NotRead}
@@ -25,7 +25,7 @@ use Rattle.pot_group.specs.Looking.{Looks}
 use Rattle.pot_group.specs.Group.{CoversOne, GroupView, IsQuiet, IsSettled}
 use Rattle.pot_group.specs.Calls.{Made}
 use Rattle.pot_group.specs.Sweeping.{SweepCall}
-use Rattle.pot_group.specs.Lanes.{Finds, Gathers, OnlyLastFails, ReadsLane, ReadsOn, entry_of, with_found}
+use Rattle.pot_group.specs.Lanes.{FindsInLane, Gathers, OnlyLastFails, ReadsLane, ReadsOn, entry_of, with_found}
 use Rattle.pot_group.proofs.LookSteps.{seen_made, gone_made, faulted_made}
 use Rattle.pot_group.proofs.Reading.{covers_rise}
 use Rattle.pot_group.proofs.Settled.{settled_quiet, settled_stays}
@@ -53,7 +53,7 @@ module _ (told : Type 0) (g : GroupView) (mid : Shelves) (lane : Lane) (digest :
   abbrev number : ℕ
   number = serving_at g.table lane.place.stripe lane.place.column
 
-  sound_look : Finds lane digest Sound → Looks told lane.place.stripe lane.place.column lane.block Sound g (over g mid)
+  sound_look : FindsInLane lane digest Sound → Looks told lane.place.stripe lane.place.column lane.block Sound g (over g mid)
   sound_look f = record {
     stays = read.reads.stays;
     finds = (
@@ -62,21 +62,21 @@ module _ (told : Type 0) (g : GroupView) (mid : Shelves) (lane : Lane) (digest :
     );
   }
 
-  not_there : Finds lane digest Missing → told → IsSoundAt (stripe_of g.table mid.held lane.place.stripe) lane.place.column → ⊥
+  not_there : FindsInLane lane digest Missing → told → IsSoundAt (stripe_of g.table mid.held lane.place.stripe) lane.place.column → ⊥
   not_there (inl absent) t sound =
       none-some sound.0 (sym (subst (λ o. ReadTells (mid.held number) lane.place.stripe lane.block o) absent (read.reads.tells t)) ∙ sound.1.held)
   not_there (inr other) t sound =
       let same : sound.0 ≡ lane.block = same_Some sound.0 lane.block (sym sound.1.held ∙ subst (λ o. ReadTells (mid.held number) lane.place.stripe lane.block o) other.0 (read.reads.tells t)) in
       other.1 (ap digest_in (read.state ∙ sound.1.live) ∙ ap Some (sym sound.1.right ∙ ap digest_of same ∙ sym right))
 
-  missing_look : Finds lane digest Missing → Looks told lane.place.stripe lane.place.column lane.block Missing g (over g mid)
+  missing_look : FindsInLane lane digest Missing → Looks told lane.place.stripe lane.place.column lane.block Missing g (over g mid)
   missing_look f = record { stays = read.reads.stays; finds = not_there f }
 
   failed_look : IsErr lane.answer → CoversOne (over g mid) lane.place.column → Looks told lane.place.stripe lane.place.column lane.block NotRead g (over g mid)
   failed_look e covers = record { stays = read.reads.stays; finds = (read.reads.cause e, covers, live) }
 
 -- a slot that is not sound is not after losses either
-unsound_later : (told : Type 0) (g : GroupView) (x y : Shelves) (s c : ℕ) → Stays told x y → (told → IsSoundAt (stripe_of g.table x.held s) c → ⊥) → told → IsSoundAt (stripe_of g.table y.held s) c → ⊥
+unsound_later : (told : Type 0) (g : GroupView) (x y : Shelves) (s c : ℕ) → ShelvesStay told x y → (told → IsSoundAt (stripe_of g.table x.held s) c → ⊥) → told → IsSoundAt (stripe_of g.table y.held s) c → ⊥
 unsound_later told g x y s c stays none t sound = none t (
   sound.0,
   record { digest = sound.1.digest; live = sound.1.live; held = (stays.loses t (serving_at g.table s c)).keeps s sound.0 sound.1.held; right = sound.1.right },
@@ -138,7 +138,7 @@ module _ (told : Type 0) (job s c n : ℕ) (swept : Swept) (lane : Lane) (rest :
     settled : IsSettled told (over now next)
     settled = settled_stays told (over now noting.mid) next noting.settled noting.reads.2.reads.stays
 
-    later : Stays told next now.shelves
+    later : ShelvesStay told next now.shelves
     later = reads_stay told now.number now.table lane.place.stripe (lane.place.column + 1) rest next now.shelves noting.reads.3
 
     covers : IsErr lane.answer → CoversOne (over now next) lane.place.column
@@ -148,7 +148,7 @@ module _ (told : Type 0) (job s c n : ℕ) (swept : Swept) (lane : Lane) (rest :
     all_read : IsErr lane.answer → now.shelves ≡ next
     all_read e = subst (λ ls. ReadsOn told now.number now.table lane.place.stripe (lane.place.column + 1) ls next now.shelves) (noting.fails.0 e) noting.reads.3
 
-    look : (found : Found) → Finds lane digest found → Looks told lane.place.stripe lane.place.column lane.block found (over now noting.mid) (over now next)
+    look : (found : Found) → FindsInLane lane digest found → Looks told lane.place.stripe lane.place.column lane.block found (over now noting.mid) (over now next)
     look Sound f = sound_look told (over now noting.mid) next lane digest noting.reads.2 live right f
     look Missing f = missing_look told (over now noting.mid) next lane digest noting.reads.2 live right f
     look NotRead f = failed_look told (over now noting.mid) next lane digest noting.reads.2 live right f (covers f)
@@ -159,12 +159,12 @@ module _ (told : Type 0) (job s c n : ℕ) (swept : Swept) (lane : Lane) (rest :
     legal NotRead = range
 
     -- the entry says nothing untrue, of the archives then and of those now
-    quiet_then : (found : Found) → Finds lane digest found → IsQuiet told (over now next) (entry_of job lane.place found)
+    quiet_then : (found : Found) → FindsInLane lane digest found → IsQuiet told (over now next) (entry_of job lane.place found)
     quiet_then Sound f = tt
     quiet_then Missing f = (look Missing f).finds
     quiet_then NotRead f = covers f
 
-    quiet_now : (found : Found) → Finds lane digest found → IsQuiet told now (entry_of job lane.place found)
+    quiet_now : (found : Found) → FindsInLane lane digest found → IsQuiet told now (entry_of job lane.place found)
     quiet_now Sound f = tt
     quiet_now Missing f = unsound_later told now next now.shelves lane.place.stripe lane.place.column later (look Missing f).finds
     quiet_now NotRead f = subst (λ (x : Shelves). CoversOne (over now x) lane.place.column) (sym (all_read f)) (covers f)
@@ -172,7 +172,7 @@ module _ (told : Type 0) (job s c n : ℕ) (swept : Swept) (lane : Lane) (rest :
     abbrev Goes : Found → Type 0
     Goes found = Noted told job s c (n + 1) (with_found swept lane.place found) rest old (logged now (entry_of job lane.place found))
 
-    goes_on : (found : Found) → Finds lane digest found → (made : List Entry) → Sweeps told job s c (n + 1) lane.place.stripe (lane.place.column + 1) (with_found swept lane.place found) old (over (logged now (entry_of job lane.place found)) next) made
+    goes_on : (found : Found) → FindsInLane lane digest found → (made : List Entry) → Sweeps told job s c (n + 1) lane.place.stripe (lane.place.column + 1) (with_found swept lane.place found) old (over (logged now (entry_of job lane.place found)) next) made
         → Goes found
     goes_on found f made sweeps =
         let e = entry_of job lane.place found in
@@ -190,7 +190,7 @@ module _ (told : Type 0) (job s c n : ℕ) (swept : Swept) (lane : Lane) (rest :
           },
         )
 
-    noted_one : (found : Found) → Finds lane digest found → Goes found
+    noted_one : (found : Found) → FindsInLane lane digest found → Goes found
     noted_one Sound f =
         goes_on Sound f _ (sweeps_seen told job s c n noting.stripe noting.column swept old (over now noting.mid) (over (logged now (entry_of job lane.place Sound)) next) entries noting.sweeps lane.place lane.block place
         (seen_made told (over now noting.mid) (over now next) job lane.place lane.block range.0 range.1 room (look Sound f)))
@@ -218,7 +218,7 @@ module _ (told : Type 0) (job s c n : ℕ) (swept : Swept) (lane : Lane) (rest :
   note_room (inl x) = room x.0 x.1
   note_room (inr x) = absurd (let e = x.0 in cc)
 
-  module _ (found : Found) (finds : Finds lane digest found) (e : Entry) (says : e ≡ entry_of job lane.place found) where
+  module _ (found : Found) (finds : FindsInLane lane digest found) (e : Entry) (says : e ≡ entry_of job lane.place found) where
     pub note_legal : Noted told job s c n swept (lane ∷ rest) old now → Legal now.table e
     note_legal (inl x) = subst (λ (e : Entry). Legal now.table e) (sym says) (legal x.0 x.1 found)
     note_legal (inr x) = absurd (let e = x.0 in cc)

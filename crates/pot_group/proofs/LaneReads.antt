@@ -9,14 +9,14 @@ use Rattle.pot_machine.specs.Slot.{is_live, lost_of}
 use Rattle.pot_machine.specs.Table.{Table, width, slot_at}
 use Rattle.pot_machine.specs.Machine.{after, with_loss}
 use Rattle.pot_machine.proofs.Places.{slot_other}
-use Rattle.pot_shelves.specs.Shelves.{Shelves, Stays}
+use Rattle.pot_shelves.specs.Shelves.{Shelves, ShelvesStay}
 use Rattle.pot_shelves.proofs.ShelfLemmas.{stays_refl, stays_then}
 use Rattle.pot_group.specs.declared.lanes.Lane.{Lane}
 use Rattle.pot_group.specs.declared.lanes.Lanes.{Lanes}
 use Rattle.pot_group.specs.declared.reads.Found.{Found}
 use Rattle.pot_group.specs.declared.reads.Found.TheVariants.{Sound, Missing, NotRead}
 use Rattle.pot_group.specs.Finding.{Before, IsFrom, IsPlace}
-use Rattle.pot_group.specs.Lanes.{AreDigests, Gathers, OnlyLastFails, ReadsLane, ReadsOn, entry_of, lanes_of}
+use Rattle.pot_group.specs.Lanes.{AreLaneDigests, Gathers, OnlyLastFails, ReadsLane, ReadsOn, entry_of, lanes_of}
 
 -- ONE READ MORE
 
@@ -113,8 +113,8 @@ module _ (told : Type 0) (number : ℕ) (t : Table) (s c n at_stripe at_column :
 
 -- WHAT READS LEAVE
 
-pub reads_stay : (told : Type 0) (number : ℕ) (t : Table) (s c : ℕ) (lanes : List Lane) (x y : Shelves) → ReadsOn told number t s c lanes x y → Stays told x y
-reads_stay told number t s c [] x y o = subst (λ (v : Shelves). Stays told x v) (sym o) (stays_refl told x)
+pub reads_stay : (told : Type 0) (number : ℕ) (t : Table) (s c : ℕ) (lanes : List Lane) (x y : Shelves) → ReadsOn told number t s c lanes x y → ShelvesStay told x y
+reads_stay told number t s c [] x y o = subst (λ (v : Shelves). ShelvesStay told x v) (sym o) (stays_refl told x)
 reads_stay told number t s c (lane ∷ lanes) x y o =
     stays_then told x o.0 y o.2.reads.stays (reads_stay told number t lane.place.stripe (lane.place.column + 1) lanes o.0 y o.3)
 
@@ -181,7 +181,7 @@ first_lane (a ∷ lanes) p q long = refl
 
 pub digests_four : (n : ℕ) (lanes : List Lane) (digests : List Digest) (p q r s : Lane) → n ≤ 4 → length lanes ≡ 4
     → digests ≡ map (λ block. record { bytes = digest_bytes block }) ((get_or lanes 0 p).block ∷ (get_or lanes 1 q).block ∷ (get_or lanes 2 r).block ∷ (get_or lanes 3 s).block ∷ [])
-    → AreDigests n lanes digests
+    → AreLaneDigests n lanes digests
 unfolding digest_of
 digests_four n lanes digests p q r s few long e k x d lt =
     let f : Lane → Digest = (λ (l : Lane). digest_of l.block) in
@@ -189,7 +189,7 @@ digests_four n lanes digests p q r s few long e k x d lt =
     ap (λ ds. get_or ds k d) all ∙ get_or-map f lanes k x d (omega (arith, lt, few, long))
 
 pub digests_one : (n : ℕ) (lanes : List Lane) (p : Lane) (bytes : List ℕ) (d : Digest) → n < 2 → length lanes ≡ 4 → bytes ≡ (get_or lanes 0 p).block → d.bytes ≡ digest_bytes bytes
-    → AreDigests n lanes (d ∷ d ∷ d ∷ d ∷ [])
+    → AreLaneDigests n lanes (d ∷ d ∷ d ∷ d ∷ [])
 unfolding digest_of
 digests_one n lanes p bytes d few long value is zero x y lt = ap made (is ∙ ap digest_bytes (value ∙ ap (λ (l : Lane). l.block) (first_lane lanes p x long)))
   where

@@ -13,10 +13,10 @@ use Rattle.pot_group.specs.declared.answers.Looked.{Looked}
 use Rattle.pot_group.specs.declared.answers.Looked.TheVariants as looked
 use Rattle.pot_group.specs.declared.reads.Found.TheVariants as found
 use Rattle.pot_group.specs.Looking.{Looks}
-use Rattle.pot_shelves.specs.Shelves.{Stays}
+use Rattle.pot_shelves.specs.Shelves.{ShelvesStay}
 use Rattle.pot_group.specs.Group.{GroupView, Logs, LookCause, looked_as, state_of}
 use Rattle.pot_group.specs.Calls.{LookCall, Made}
-use Rattle.pot_group.proofs.Rows.{grows_keeps, grows_same}
+use Rattle.pot_group.proofs.Rows.{grows_keeps, grows_same, no_tries}
 use Rattle.pot_shelves.proofs.ShelfLemmas.{stays_refl}
 
 -- the log has room for one more
@@ -29,17 +29,17 @@ module _ (told : Type 0) (g mid : GroupView) (job : ℕ) (place : Place) (into :
   after_look e = record g { table = after g.table e; log = g.log ++ e ∷ []; shelves = mid.shelves }
 
   logs_one : (e : Entry) → Legal g.table e → Logs (e ∷ []) g (after_look e)
-  logs_one e legal = record { number = refl; first = refl; log = refl; flights = refl; blinds = refl; replay = (legal, refl) }
+  logs_one e legal = record { number = refl; first = refl; log = refl; flights = refl; blinds = refl; tried = refl; replay = (legal, refl) }
 
   not_full : {X : Type 0} → length g.log ≡ log_bound → X
   not_full e = absurd (omega (arith, e, room))
 
-  one_made : (answer : Looked) (e : Entry) → e ∷ [] ≡ look_entries job place.stripe place.column (looked_as answer into) → Legal g.table e → (answer ≡ looked.LogFull → ⊥) → Stays told g.shelves mid.shelves
+  one_made : (answer : Looked) (e : Entry) → e ∷ [] ≡ look_entries job place.stripe place.column (looked_as answer into) → Legal g.table e → (answer ≡ looked.LogFull → ⊥) → ShelvesStay told g.shelves mid.shelves
       → LookCause answer g (after_look e) place.stripe place.column into → (told → LookMeans (state_of g) (state_of (after_look e)) place.stripe place.column (looked_as answer into))
       → Made (LookCall told job place into answer) g (after_look e)
   one_made answer e says legal other stays cause means = (
     e ∷ [],
-    grows_keeps g (after_look e) (e ∷ []) refl refl refl stays.keeps,
+    grows_keeps g (after_look e) (e ∷ []) refl refl refl (no_tries g (after_look e) refl) stays.keeps,
     record {
       logs = logs_one e legal;
       entries_are = says;
@@ -73,7 +73,7 @@ full_made told g job place into full = (
   [],
   grows_same g g refl,
   record {
-    logs = record { number = refl; first = refl; log = sym (append-nil g.log); flights = refl; blinds = refl; replay = refl };
+    logs = record { number = refl; first = refl; log = sym (append-nil g.log); flights = refl; blinds = refl; tried = refl; replay = refl };
     entries_are = refl;
     full = (λ q. full, λ q. refl);
     cause = refl;

@@ -24,7 +24,7 @@ use Rattle.pot_group.proofs.CauseLemmas.{archives_of-snoc, covers-one, covers-st
 use Rattle.pot_group.proofs.ColumnExits.{archives-more, move_begins, moves_copied, moves_passed, move_ends, swaps}
 use Rattle.pot_shelves.proofs.ShelfLemmas.{keeps_refl, loses_refl, put_at-here, put_at-other}
 use Rattle.pot_group.specs.Frames.{FaultInto}
-use Rattle.pot_group.specs.Heard.{Gives, blinds_after}
+use Rattle.pot_group.specs.Heard.{GivesBlock, blinds_after}
 use Rattle.pot_group.proofs.Framing.{frames_still, frames_write}
 use Rattle.pot_group.proofs.Settled.{LeavesColumns, settled_act, same_columns, one_fault, gone_lost, no_fault}
 
@@ -43,7 +43,7 @@ covers-more told g e s c columns zs eq (inr le) = no_fault s (archives_of g.firs
 module _ (told : Type 0) (g : GroupView) (e : Entry) (settled : IsSettled told g) (legal : Legal g.table e) (room : length g.log < log_bound) (columns : LeavesColumns told g e g.shelves) where
   pub column_act : (told → Acts g.table g.flights [] e g.shelves.held g.shelves.held) → ((c : ℕ) → fault_of g.first.data_columns c e ≡ 0)
       → (told → (c : ℕ) → c < width g.first → Misses g.table e c → HasLost g.shelves (archives_of g.first g.log c))
-      → (told → Gives g.table g.flights e [])
+      → (told → GivesBlock g.table g.flights e [])
       → IsSettled told (record g { table = after g.table e; log = g.log ++ e ∷ []; flights = flights_after g.table e [] g.flights; blinds = blinds_after e [] g.blinds })
   column_act acts none missed gives = settled_act told g e [] g.shelves (λ t. g.shelves.held) settled legal room (keeps_refl g.shelves) columns (λ t. loses_refl g.shelves) acts (λ t puts n c b ln lc live q. q)
       (λ c lc. subst (λ n. Covers g.shelves (archives_of g.first (g.log ++ e ∷ []) c) (faults_in g.first.data_columns c g.log + n)) (sym (none c))

@@ -17,7 +17,7 @@ use Rattle.pot_group.specs.Moving.{Comes, MoveUse}
 use Rattle.pot_steps.specs.Entries.{LosesAtLive}
 use Rattle.pot_steps.specs.Flights.{Acts}
 use Rattle.pot_steps.specs.Holdings.{Holdings}
-use Rattle.pot_steps.specs.RelaySteps.{Writes}
+use Rattle.pot_steps.specs.RelaySteps.{EntryWrites}
 use Rattle.pot_group.proofs.Brought.{held_same}
 use Rattle.pot_group.proofs.MoveExits.{move_begin_settled, swap_settled}
 
@@ -59,12 +59,12 @@ swap_legal told meaning old mid job c to settled column fresh e =
 module _ {A : Type 0} (told : Type 0) (meaning : A → Meaning) (old mid new : GroupParts A) (shelf : Shelf A) (settled : IsSettled told (view_of meaning old)) (room : length old.log < log_bound)
     (fresh : Contains (plain meaning old.shelves).numbers shelf.number → ⊥) (em : mid ≡ with_archives old mid.shelves)
     (brings : Brings told shelf.number (meaning shelf.archive) (plain meaning old.shelves) (plain meaning mid.shelves)) where
-  came_by : (e : Entry) → Legal old.table e → ((h h' : Holdings) → LosesAtLive old.table h h' → Acts old.table old.flights [] e h h') → ((slot : ℕ) → Writes old.table e shelf.number slot)
+  came_by : (e : Entry) → Legal old.table e → ((h h' : Holdings) → LosesAtLive old.table h h' → Acts old.table old.flights [] e h h') → ((slot : ℕ) → EntryWrites old.table e shelf.number slot)
       → Comes told meaning e shelf (view_of meaning old) (view_of meaning (acted (with_archives old mid.shelves) e []))
   came_by e legal acts written = record {
     room = room;
     fresh = fresh;
-    acts = record { number = refl; first = refl; legal = legal; table = refl; log = refl; flights = refl; blinds = refl };
+    acts = record { number = refl; first = refl; legal = legal; table = refl; log = refl; flights = refl; blinds = refl; tried = refl };
     brings = brings;
     steps = λ t. record {
       logs = record {
@@ -79,7 +79,7 @@ module _ {A : Type 0} (told : Type 0) (meaning : A → Meaning) (old mid new : G
         acts = acts (view_of meaning old).shelves.held (plain meaning mid.shelves).held
             (λ n k b ln lk live q. sym (held_same told (view_of meaning old) shelf.number (meaning shelf.archive) (plain meaning mid.shelves) settled fresh brings n k lk) ∙ q);
         loses = (λ n m b q. q);
-        elsewhere = (λ n m b ne q. sym (brings.same_held n m (λ is. ne (subst (λ n. Writes old.table e n m) (sym is) (written m)))) ∙ q);
+        elsewhere = (λ n m b ne q. sym (brings.same_held n m (λ is. ne (subst (λ n. EntryWrites old.table e n m) (sym is) (written m)))) ∙ q);
       };
       brings = record { blocks = brings.blocks; sums = brings.sums; others = brings.same_held; silent = brings.same_heard };
     };

@@ -94,7 +94,7 @@ module _ {A : Type 0} (told : Type 0) (meaning : A → Meaning) (number : ℕ) (
   now = plain meaning (record b { opened = marks })
 
   abbrev group : GroupParts A
-  group = record { number = number; first = t; table = u; log = log; flights = []; blinds = []; shelves = record b { opened = marks } }
+  group = record { number = number; first = t; table = u; log = log; flights = []; blinds = []; tried = []; shelves = record b { opened = marks } }
 
   abbrev view : GroupParts A → GroupView
   view g = view_of meaning g
@@ -148,6 +148,7 @@ module _ {A : Type 0} (told : Type 0) (meaning : A → Meaning) (number : ℕ) (
   pub opened_settled : IsSettled told (view group)
   opened_settled = record {
     blinds = sym (begins_opening log all);
+    tried = record { few = omega arith; below = λ x h. absurd (omega (arith, h.1)) };
     heard = (λ k. heard_opened t log now all (λ n. o.stays.heard k n ∙ sym (ap (λ (y : Meaning). y.heard) (o.stays.keeps.taken n ∙ taken.meant n))));
     frame = (λ k. record {
       held = (λ n m x h. inl (ap (λ (y : Meaning). y.held m) (o.stays.keeps.taken n ∙ taken.meant n) ∙ (o.stays.loses k n).keeps m x h));
@@ -191,6 +192,7 @@ module _ {A : Type 0} (told : Type 0) (meaning : A → Meaning) (number : ℕ) (
     is_number = refl;
     first = refl;
     blinds = refl;
+    tried = refl;
     read = b;
     opens = o;
     marked = refl;
@@ -207,7 +209,7 @@ module _ {A : Type 0} (told : Type 0) (meaning : A → Meaning) (number : ℕ) (
     (o : Opens told t.stripes t u log (plain meaning a) (plain meaning b)) (bound : length log ≤ log_bound)
     (same : after ≡ record b { opened = after.opened }) (opened : IsOpenedNow told (plain meaning after)) where
   abbrev over : Shelved A → GroupParts A
-  over s = record { number = number; first = t; table = u; log = log; flights = []; blinds = []; shelves = s }
+  over s = record { number = number; first = t; table = u; log = log; flights = []; blinds = []; tried = []; shelves = s }
 
   now_opened : IsOpenedNow told (plain meaning (record b { opened = after.opened }))
   now_opened = subst (λ s. IsOpenedNow told (plain meaning s)) same opened

@@ -18,10 +18,10 @@ use Rattle.pot_machine.proofs.Places.{slot_same, slot_other}
 use Rattle.pot_machine.proofs.Logs.{replays_append}
 use Rattle.pot_steps.specs.Stripe.{Sound}
 use Rattle.pot_steps.specs.Holdings.{stripe_of}
-use Rattle.pot_steps.specs.GroupStep.{Passed, IsMissing, skips, gone_entries}
+use Rattle.pot_steps.specs.GroupStep.{Passed, IsParityMissing, skips, gone_entries}
 use Rattle.pot_group.specs.declared.putting.Stop.{Stop}
 use Rattle.pot_group.specs.declared.putting.Stop.TheVariants as stop
-use Rattle.pot_shelves.specs.Shelves.{Shelves, Stays, LosesByCount}
+use Rattle.pot_shelves.specs.Shelves.{Shelves, ShelvesStay, LosesByCount}
 use Rattle.pot_group.specs.Group.{GroupView, Logs, FitsGone, state_of}
 use Rattle.pot_group.specs.Putting.{FoundGone, IsLeast, Passes, PassesAll, FindsStripe}
 use Rattle.pot_shelves.proofs.ShelfLemmas.{stays_refl, stays_then}
@@ -83,7 +83,7 @@ module _ (told : Type 0) (job s c : ℕ) (v : GroupView) (rules : IsTable v.tabl
           means = (
             Some c,
             found,
-            subst (λ n. Logs (entry.Gone job n c ∷ []) v (entered v (entry.Gone job s c))) at.0 (record { number = refl; first = refl; log = refl; flights = refl; blinds = refl; replay = ((at.1, within), refl) }),
+            subst (λ n. Logs (entry.Gone job n c ∷ []) v (entered v (entry.Gone job s c))) at.0 (record { number = refl; first = refl; log = refl; flights = refl; blinds = refl; tried = refl; replay = ((at.1, within), refl) }),
             sym (ap (λ x. length x.log) e) ∙ full,
             subst (λ n. n < v.table.stripes) at.0 at.1,
           );
@@ -102,6 +102,7 @@ module _ (told : Type 0) (job s c : ℕ) (v : GroupView) (rules : IsTable v.tabl
               first = refl;
               flights = refl;
               blinds = refl;
+              tried = refl;
               log = append_assoc v.log (entry.Gone job s c ∷ []) (entry.Skip job s ∷ []);
               replay = ((at.1, within), (skip_legal, refl));
             }),
@@ -109,19 +110,19 @@ module _ (told : Type 0) (job s c : ℕ) (v : GroupView) (rules : IsTable v.tabl
         })
 
 logs_from : (entries : List Entry) (old : GroupView) (s : Shelves) (new : GroupView) → Logs entries (record old { shelves = s }) new → Logs entries old new
-logs_from entries old s new l = record { number = l.number; first = l.first; log = l.log; flights = l.flights; blinds = l.blinds; replay = l.replay }
+logs_from entries old s new l = record { number = l.number; first = l.first; log = l.log; flights = l.flights; blinds = l.blinds; tried = l.tried; replay = l.replay }
 
 -- what was sound after a loss was sound before it
 pub sound_before : (t : Table) (a b : Shelves) (n k : ℕ) → LosesByCount a.held a b → Sound (stripe_of t b.held n) k → Sound (stripe_of t a.held n) k
 sound_before t a b n k l x = (x.0, record { digest = x.1.digest; live = x.1.live; held = (l (serving_at t n k)).keeps n x.0 x.1.held; right = x.1.right })
 
 -- what was found gone after a read
-gone_before : (told : Type 0) (old : GroupView) (s : Shelves) (new : GroupView) (n : ℕ) (gone : Option ℕ) → Stays told old.shelves s → FoundGone told (record old { shelves = s }) new n gone → FoundGone told old new n gone
+gone_before : (told : Type 0) (old : GroupView) (s : Shelves) (new : GroupView) (n : ℕ) (gone : Option ℕ) → ShelvesStay told old.shelves s → FoundGone told (record old { shelves = s }) new n gone → FoundGone told old new n gone
 gone_before told old s new n None stays f = tt
 gone_before told old s new n (Some c) stays f = (f.0, f.1, f.2, f.3, f.4, λ t e. sound_before old.table old.shelves s n old.table.data_columns (stays.loses t) (f.5 t e))
 
 -- what was read before is lost at most
-pub left_passes : (told : Type 0) (job : ℕ) (p q : List ℕ) (result : Option Stop) (old : GroupView) (s : Shelves) (new : GroupView) → Stays told old.shelves s
+pub left_passes : (told : Type 0) (job : ℕ) (p q : List ℕ) (result : Option Stop) (old : GroupView) (s : Shelves) (new : GroupView) → ShelvesStay told old.shelves s
     → (result ≡ None) ⊎ (result ≡ Some stop.LogFull) → Passes told job [] [] result (record old { shelves = s }) new → Passes told job p q result old new
 left_passes told job p q None old s new stays which l = record {
   stays = stays_then told old.shelves s new.shelves stays l.stays;
@@ -151,6 +152,7 @@ logs_then before more a b c p q = record {
   log = q.log ∙ ap (λ l. l ++ more) p.log ∙ append_assoc a.log before more;
   flights = q.flights ∙ p.flights;
   blinds = q.blinds ∙ p.blinds;
+  tried = q.tried ∙ p.tried;
   replay = replays_append a.table before b.table more c.table p.replay q.replay;
 }
 
@@ -192,7 +194,7 @@ passed_one told job p q now new x = crossed now.table new.table job now.table.cu
 
 -- what is missing is missing under later losses
 pub missing_on : (old : GroupView) (now new : Shelves) (s : ℕ) (gone : Option ℕ) → LosesByCount now.held now new
-    → IfSome gone (λ c. IsMissing (state_of old) now.held s c) → IfSome gone (λ c. IsMissing (state_of old) new.held s c)
+    → IfSome gone (λ c. IsParityMissing (state_of old) now.held s c) → IfSome gone (λ c. IsParityMissing (state_of old) new.held s c)
 missing_on old now new s None l m = tt
 missing_on old now new s (Some c) l m = record {
   takes = m.takes;
@@ -235,7 +237,7 @@ sound_ahead told job passed old now all h s c le lc x = (
 
 -- a parity block that is missing in the table now is missing in the old one
 pub missing_here : (told : Type 0) (job : ℕ) (passed : List Passed) (old now new : GroupView) → PassesAll told job passed old now
-    → told → (s : ℕ) (gone : Option ℕ) → now.table.cursor.stripe ≤ s → FoundGone told now new s gone → IfSome gone (λ c. IsMissing (state_of old) new.shelves.held s c)
+    → told → (s : ℕ) (gone : Option ℕ) → now.table.cursor.stripe ≤ s → FoundGone told now new s gone → IfSome gone (λ c. IsParityMissing (state_of old) new.shelves.held s c)
 missing_here told job passed old now new all t s None le f = tt
 missing_here told job passed old now new all t s (Some c) le f = record {
   takes = (fits_gone told job passed old now new all s (Some c) le f).1;
@@ -274,8 +276,8 @@ module _ (told : Type 0) (job : ℕ) (passed : List Passed) (p q : List ℕ) (ol
     logs = subst (λ l. Logs l old new) (sym (skips_push job passed last))
         (logs_then (skips job passed) (gone_entries job last.stripe last.gone ++ entry.Skip job last.stripe ∷ []) old now new all.logs one.means.2);
     stays = stays_then told old.shelves now.shelves new.shelves all.stays one.stays;
-    missing = (λ t. All-push (λ x. IfSome x.gone (λ c. IsMissing (state_of old) new.shelves.held x.stripe c)) passed last
-        (All-weaker (λ x. IfSome x.gone (λ c. IsMissing (state_of old) now.shelves.held x.stripe c)) (λ x. IfSome x.gone (λ c. IsMissing (state_of old) new.shelves.held x.stripe c))
+    missing = (λ t. All-push (λ x. IfSome x.gone (λ c. IsParityMissing (state_of old) new.shelves.held x.stripe c)) passed last
+        (All-weaker (λ x. IfSome x.gone (λ c. IsParityMissing (state_of old) now.shelves.held x.stripe c)) (λ x. IfSome x.gone (λ c. IsParityMissing (state_of old) new.shelves.held x.stripe c))
         (λ x m. missing_on old now.shelves new.shelves x.stripe x.gone (one.stays.loses t) m) passed (all.missing t))
         (missing_here told job passed old now new all t now.table.cursor.stripe one.means.0 (omega arith) one.means.1));
     gones = All-push (λ x. FitsGone old.table x.stripe x.gone) passed last all.gones (fits_gone told job passed old now new all now.table.cursor.stripe one.means.0 (omega arith) one.means.1);
@@ -290,9 +292,9 @@ module _ (told : Type 0) (job : ℕ) (passed : List Passed) (p q : List ℕ) (ol
 -- no stripe was passed
 pub passes_none : (told : Type 0) (job : ℕ) (v : GroupView) → PassesAll told job [] v v
 passes_none told job v = record {
-  logs = record { number = refl; first = refl; log = sym (append-nil v.log); flights = refl; blinds = refl; replay = refl };
+  logs = record { number = refl; first = refl; log = sym (append-nil v.log); flights = refl; blinds = refl; tried = refl; replay = refl };
   stays = stays_refl told v.shelves;
-  missing = (λ t. All-nil (λ x. IfSome x.gone (λ c. IsMissing (state_of v) v.shelves.held x.stripe c)));
+  missing = (λ t. All-nil (λ x. IfSome x.gone (λ c. IsParityMissing (state_of v) v.shelves.held x.stripe c)));
   gones = All-nil (λ x. FitsGone v.table x.stripe x.gone);
   ahead = (λ n k le lk. refl);
   relays = refl;

@@ -14,12 +14,13 @@ use Rattle.pot_machine.specs.declared.entry.Entry.{Entry}
 use Rattle.pot_machine.specs.declared.entry.Entry.TheVariants as entry
 use Rattle.pot_machine.specs.Table.{Table, width, serving_at, slot_at}
 use Rattle.pot_machine.specs.Machine.{TakesBlocks, Replays}
-use Rattle.pot_steps.specs.GroupStep.{LogsInStep, LosesBlocks, Passed, PassesTo, PutsBlock, PutStep, PutFailed, IsMissing, skips, gone_entries, put_entry, unkept}
+use Rattle.pot_steps.specs.GroupStep.{LogsInStep, LosesBlocks, Passed, PassesTo, PutsBlock, PutStep, PutFailed, IsParityMissing, skips, gone_entries, put_entry, unkept}
 use Rattle.pot_group.specs.declared.answers.PutFault.{PutFault}
 use Rattle.pot_group.specs.declared.answers.PutFault.TheVariants as fault
 use Rattle.pot_group.specs.declared.putting.Stop.TheVariants as stop
-use Rattle.pot_shelves.specs.Shelves.{Stays, LosesByCount, put_at}
-use Rattle.pot_group.specs.Group.{GroupView, Logs, FailedAt, state_of, put_as, FitsSlot, FitsParity, FitsGone}
+use Rattle.pot_shelves.specs.Shelves.{ShelvesStay, LosesByCount, put_at}
+use Rattle.pot_group.specs.Frames.{Tries}
+use Rattle.pot_group.specs.Group.{GroupView, Logs, LogsOf, FailedAt, state_of, put_as, FitsSlot, FitsParity, FitsGone}
 use Rattle.pot_group.specs.Putting.{PassesAll, FindsStripe, HasOld, PutsAll, PutsNone, BlockMeans}
 use Rattle.pot_group.proofs.Rows.{PutMade}
 use Rattle.pot_group.proofs.Passing.{logs_then, same_serving, missing_on, missing_here, fits_gone}
@@ -31,13 +32,17 @@ use Rattle.pot_shelves.proofs.ShelfLemmas.{put_at-here, put_at-other, left_new, 
 pub logs_end : (xs : List Entry) (a b c : GroupView) → Logs xs a b → Logs [] b c → Logs xs a c
 logs_end xs a b c l m = subst (λ x. Logs x a c) (append-nil xs) (logs_then xs [] a b c l m)
 
+-- where no block of a put was kept
+pub logs_of : (xs : List Entry) (a b : GroupView) → Logs xs a b → LogsOf xs a b
+logs_of xs a b l = record { number = l.number; first = l.first; log = l.log; flights = l.flights; blinds = l.blinds; tried = refl; replay = l.replay }
+
 -- a log that had room for one entry
 one_more : (log more : List Entry) (e : Entry) → length log < log_bound → more ≡ log ++ e ∷ [] → length more ≤ log_bound
 one_more log more e room is = let l : length (log ++ e ∷ []) ≡ length log + 1 = length-append log (e ∷ []) in omega (arith, room, ap length is)
 
 -- THE STRIPES THAT WERE PASSED
 
-module _ (told : Type 0) (job : ℕ) (passed : List Passed) (old now mid : GroupView) (passes : PassesAll told job passed old now) (stays : Stays told now.shelves mid.shelves) where
+module _ (told : Type 0) (job : ℕ) (passed : List Passed) (old now mid : GroupView) (passes : PassesAll told job passed old now) (stays : ShelvesStay told now.shelves mid.shelves) where
   since : (n : ℕ) → old.shelves.faults n ≤ mid.shelves.faults n
   since n = omega (arith, passes.stays.keeps.later n, stays.keeps.later n)
 
@@ -48,9 +53,9 @@ module _ (told : Type 0) (job : ℕ) (passed : List Passed) (old now mid : Group
   same_heard t n = stays.heard t n ∙ passes.stays.heard t n
 
   -- a block that was missing is missing
-  all_missing : told → All (λ x. IfSome x.gone (λ c. IsMissing (state_of old) mid.shelves.held x.stripe c)) passed
+  all_missing : told → All (λ x. IfSome x.gone (λ c. IsParityMissing (state_of old) mid.shelves.held x.stripe c)) passed
   all_missing t =
-      All-weaker (λ x. IfSome x.gone (λ c. IsMissing (state_of old) now.shelves.held x.stripe c)) (λ x. IfSome x.gone (λ c. IsMissing (state_of old) mid.shelves.held x.stripe c))
+      All-weaker (λ x. IfSome x.gone (λ c. IsParityMissing (state_of old) now.shelves.held x.stripe c)) (λ x. IfSome x.gone (λ c. IsParityMissing (state_of old) mid.shelves.held x.stripe c))
       (λ x m. missing_on old now.shelves mid.shelves x.stripe x.gone (stays.loses t) m) passed (passes.missing t)
 
   passes_to : (at : Table) → at ≡ now.table → told → PassesTo job passed (state_of old) at mid.shelves.held
@@ -60,7 +65,7 @@ module _ (told : Type 0) (job : ℕ) (passed : List Passed) (old now mid : Group
     loses = only_lost t;
   }
 
-  logged : told → (entries : List Entry) (new : GroupView) → Logs entries old new → length new.log ≤ log_bound → ((n : ℕ) → new.shelves.heard n ≡ mid.shelves.heard n)
+  logged : told → (entries : List Entry) (new : GroupView) → LogsOf entries old new → length new.log ≤ log_bound → ((n : ℕ) → new.shelves.heard n ≡ mid.shelves.heard n)
       → LogsInStep entries (state_of old) (state_of new)
   logged t entries new l room heard = record { log = l.log; room = room; flights = l.flights; heard = (λ n. heard n ∙ same_heard t n) }
 
@@ -80,14 +85,14 @@ module _ (told : Type 0) (job : ℕ) (p q block : List ℕ) (old mid : GroupView
   all_passed = logs_end (skips job f.passed) old f.now mid f.passes.logs f.means.0
 
   pub full_made : PutMade job block (Err fault.Full) old mid
-  full_made = (skips job f.passed, all_passed, (f.passed, refl, f.passes.gones, behind))
+  full_made = (skips job f.passed, logs_of (skips job f.passed) old mid all_passed, (f.passed, refl, f.passes.gones, behind), all_passed.tried)
 
   pub full_step : length mid.log ≤ log_bound → told → PutStep job block (put_as (Err fault.Full)) (state_of old) (state_of mid)
   full_step room t = record {
     passed = f.passed;
     passes = passes_to told job f.passed old f.now mid f.passes f.stays mid.table f.means.0.replay t;
     behind = behind;
-    logs = logged told job f.passed old f.now mid f.passes f.stays t (skips job f.passed) mid all_passed room (λ n. refl);
+    logs = logged told job f.passed old f.now mid f.passes f.stays t (skips job f.passed) mid (logs_of (skips job f.passed) old mid all_passed) room (λ n. refl);
   }
 
 -- THE LOG HAS NO ROOM
@@ -95,10 +100,10 @@ module _ (told : Type 0) (job : ℕ) (p q block : List ℕ) (old mid : GroupView
 -- at once
 module _ (job : ℕ) (block : List ℕ) (old : GroupView) (full : length old.log ≡ log_bound) where
   nothing_logged : Logs [] old old
-  nothing_logged = record { number = refl; first = refl; log = sym (append-nil old.log); flights = refl; blinds = refl; replay = refl }
+  nothing_logged = record { number = refl; first = refl; log = sym (append-nil old.log); flights = refl; blinds = refl; tried = refl; replay = refl }
 
   pub at_once_made : PutMade job block (Err fault.LogFull) old old
-  at_once_made = ([], nothing_logged, ([], 0, None, refl, All-nil (λ x. FitsGone old.table x.stripe x.gone), tt, full, inl full))
+  at_once_made = ([], nothing_logged, ([], 0, None, refl, All-nil (λ x. FitsGone old.table x.stripe x.gone), tt, full, inl full), refl)
 
   pub at_once_step : PutStep job block (put_as (Err fault.LogFull)) (state_of old) (state_of old)
   at_once_step = record {
@@ -129,7 +134,7 @@ module _ (told : Type 0) (job : ℕ) (p q block : List ℕ) (old mid : GroupView
   pub log_full_made : PutMade job block (Err fault.LogFull) old mid
   log_full_made = (
     skips job f.passed ++ gone_entries job f.now.table.cursor.stripe f.means.0,
-    as_far,
+    logs_of (skips job f.passed ++ gone_entries job f.now.table.cursor.stripe f.means.0) old mid as_far,
     (
       f.passed,
       f.now.table.cursor.stripe,
@@ -140,6 +145,7 @@ module _ (told : Type 0) (job : ℕ) (p q block : List ℕ) (old mid : GroupView
       f.means.3,
       inr still_left,
     ),
+    as_far.tried,
   )
 
   pub log_full_step : told → PutStep job block (put_as (Err fault.LogFull)) (state_of old) (state_of mid)
@@ -150,7 +156,7 @@ module _ (told : Type 0) (job : ℕ) (p q block : List ℕ) (old mid : GroupView
     missing = missing_here told job f.passed old f.now mid f.passes t f.now.table.cursor.stripe f.means.0 (omega arith) f.means.1;
     passes = passes_to told job f.passed old f.now mid f.passes f.stays f.now.table refl t;
     replay = f.means.2.replay;
-    logs = logged told job f.passed old f.now mid f.passes f.stays t (skips job f.passed ++ gone_entries job f.now.table.cursor.stripe f.means.0) mid as_far (omega (arith, f.means.3)) (λ n. refl);
+    logs = logged told job f.passed old f.now mid f.passes f.stays t (skips job f.passed ++ gone_entries job f.now.table.cursor.stripe f.means.0) mid (logs_of (skips job f.passed ++ gone_entries job f.now.table.cursor.stripe f.means.0) old mid as_far) (omega (arith, f.means.3)) (λ n. refl);
     full = f.means.3;
     next = inr still_left;
   }
@@ -170,7 +176,7 @@ module _ (told : Type 0) (job : ℕ) (p q block : List ℕ) (old mid : GroupView
   pub faulted_made : PutMade job block (Err (fault.Faulted column)) old mid
   faulted_made = (
     skips job f.passed ++ entry.Fault job f.now.table.cursor.stripe column ∷ [],
-    fault_logged,
+    logs_of (skips job f.passed ++ entry.Fault job f.now.table.cursor.stripe column ∷ []) old mid fault_logged,
     (
       f.passed,
       f.now.table.cursor.stripe,
@@ -183,6 +189,7 @@ module _ (told : Type 0) (job : ℕ) (p q block : List ℕ) (old mid : GroupView
       failed_here,
       f.passes.gones,
     ),
+    inr (omega (arith, f.means.3, f.passes.data_columns), fault_logged.tried),
   )
 
   pub faulted_step : length mid.log ≤ log_bound → told → PutStep job block (put_as (Err (fault.Faulted column))) (state_of old) (state_of mid)
@@ -195,7 +202,7 @@ module _ (told : Type 0) (job : ℕ) (p q block : List ℕ) (old mid : GroupView
     place = inr (f.means.3, f.means.4);
     legal = f.means.0.replay.0;
     table = f.means.0.replay.1;
-    logs = logged told job f.passed old f.now mid f.passes f.stays t (skips job f.passed ++ entry.Fault job f.now.table.cursor.stripe column ∷ []) mid fault_logged room (λ n. refl);
+    logs = logged told job f.passed old f.now mid f.passes f.stays t (skips job f.passed ++ entry.Fault job f.now.table.cursor.stripe column ∷ []) mid (logs_of (skips job f.passed ++ entry.Fault job f.now.table.cursor.stripe column ∷ []) old mid fault_logged) room (λ n. refl);
     written = mid.shelves.held;
     left = inl refl;
     loses = (λ n m b e. e);
@@ -239,17 +246,33 @@ module _ (told : Type 0) (job : ℕ) (p q block : List ℕ) (old mid new : Group
       subst (λ n. HasOld told mid.table mid.shelves.held n p q) (sym e)
       (subst (λ u. HasOld told u mid.shelves.held u.cursor.stripe p q) (sym f.means.0.replay) f.means.4)
 
-  has_room : (e : Entry) → Logs (e ∷ []) mid new → length new.log ≤ log_bound
+  has_room : (e : Entry) → LogsOf (e ∷ []) mid new → length new.log ≤ log_bound
   has_room e l = one_more mid.log new.log e (subst (λ log. length log < log_bound) (sym (f.means.0.log ∙ append-nil f.now.log)) f.means.3) l.log
 
-  all_logged : (e : Entry) → Logs (e ∷ []) mid new → Logs (skips job f.passed ++ e ∷ []) old new
-  all_logged e l = logs_then (skips job f.passed) (e ∷ []) old mid new (logs_end (skips job f.passed) old f.now mid f.passes.logs f.means.0) l
+  before : Logs (skips job f.passed) old mid
+  before = logs_end (skips job f.passed) old f.now mid f.passes.logs f.means.0
+
+  -- a group as it is but for the blocks of puts that it kept
+  abbrev as_mid : GroupView
+  as_mid = record new { tried = mid.tried }
+
+  all_logged : (e : Entry) → LogsOf (e ∷ []) mid new → LogsOf (skips job f.passed ++ e ∷ []) old new
+  all_logged e l = logs_of (skips job f.passed ++ e ∷ []) old as_mid (logs_then (skips job f.passed) (e ∷ []) old mid as_mid before l)
 
   put_logged : (s c : ℕ) (kept kept2 : Bool) → Logs (put_entry mid.table.parity job s c block p q kept kept2 ∷ []) mid new
-      → Logs (skips job f.passed ++ put_entry old.table.parity job s c block p q kept kept2 ∷ []) old new
+      → LogsOf (skips job f.passed ++ put_entry old.table.parity job s c block p q kept kept2 ∷ []) old new
   put_logged s c kept kept2 l =
-      subst (λ n. Logs (skips job f.passed ++ put_entry n job s c block p q kept kept2 ∷ []) old new) same_parity
-      (all_logged (put_entry mid.table.parity job s c block p q kept kept2) l)
+      subst (λ n. LogsOf (skips job f.passed ++ put_entry n job s c block p q kept kept2 ∷ []) old new) same_parity
+      (all_logged (put_entry mid.table.parity job s c block p q kept kept2) (logs_of (put_entry mid.table.parity job s c block p q kept kept2 ∷ []) mid new l))
+
+  -- the block of a put whose write failed
+  one_tried : (column : ℕ) → PutsNone told job mid.table.cursor.stripe column block mid new → new.tried ≡ old.tried ++ (length (old.log ++ skips job f.passed), block) ∷ []
+  one_tried column puts =
+      puts.tried ∙ ap (λ (l : Tries). l ++ (length mid.log, block) ∷ []) before.tried ∙ ap (λ l. old.tried ++ (length l, block) ∷ []) before.log
+
+  beyond : (kept : Bool) → mid.table.data_columns ≤ unkept mid.table.data_columns kept
+  beyond true = omega arith
+  beyond false = omega arith
 
   failed : (s c : ℕ) → FailedAt mid new s c → FailedAt old new s c
   failed s c x = failed_since told job f.passed old f.now mid f.passes f.stays new s c f.means.0.replay x
@@ -287,6 +310,7 @@ module _ (told : Type 0) (job : ℕ) (p q block : List ℕ) (old mid new : Group
     skips job f.passed ++ put_entry old.table.parity job place.stripe place.column block p q true true ∷ [],
     put_logged place.stripe place.column true true m.3.logs,
     (m.0 ∙ f.means.0.number ∙ f.passes.logs.number, (f.passed, p, q, refl, fits_here some place.stripe m.1, f.passes.gones)),
+    m.3.logs.tried ∙ before.tried,
   )
   here_made some (Err (fault.Faulted column)) (inl m) = (
     skips job f.passed ++ entry.Fault job mid.table.cursor.stripe column ∷ [],
@@ -303,6 +327,7 @@ module _ (told : Type 0) (job : ℕ) (p q block : List ℕ) (old mid new : Group
       failed mid.table.cursor.stripe column m.0.fails,
       f.passes.gones,
     ),
+    inl (m.1 ∙ sym (ap (λ u. u.cursor.column) m.0.logs.replay.1), (skips job f.passed, mid.table.cursor.stripe, refl, one_tried column m.0)),
   )
   here_made some (Err (fault.Faulted column)) (inr (kept, kept2, puts, which, is)) =
       let s : ℕ = mid.table.cursor.stripe in
@@ -316,6 +341,7 @@ module _ (told : Type 0) (job : ℕ) (p q block : List ℕ) (old mid new : Group
           subst (λ k. FailedAt old new s k) (sym is) (fails_at s c kept kept2 puts which),
           f.passes.gones,
         ),
+        inr (subst (λ n. n ≤ column) same_columns (subst (λ k. mid.table.data_columns ≤ k) (sym is) (beyond kept)), puts.logs.tried ∙ before.tried),
       )
   here_made some (Err fault.Full) m = absurd m
   here_made some (Err fault.LogFull) m = absurd m
@@ -323,7 +349,7 @@ module _ (told : Type 0) (job : ℕ) (p q block : List ℕ) (old mid new : Group
   passes_here : told → PassesTo job f.passed (state_of old) mid.table mid.shelves.held
   passes_here t = passes_to told job f.passed old f.now mid f.passes f.stays mid.table f.means.0.replay t
 
-  logged_here : told → (entries : List Entry) → Logs entries old new → length new.log ≤ log_bound → ((n : ℕ) → new.shelves.heard n ≡ mid.shelves.heard n)
+  logged_here : told → (entries : List Entry) → LogsOf entries old new → length new.log ≤ log_bound → ((n : ℕ) → new.shelves.heard n ≡ mid.shelves.heard n)
       → LogsInStep entries (state_of old) (state_of new)
   logged_here t entries l room heard = logged told job f.passed old f.now mid f.passes f.stays t entries new l room heard
 
@@ -331,7 +357,8 @@ module _ (told : Type 0) (job : ℕ) (p q block : List ℕ) (old mid new : Group
   put_here : told → (s c : ℕ) (kept kept2 : Bool) → PutsAll told job s c block p q kept kept2 mid new → LogsInStep (skips job f.passed ++ put_entry mid.table.parity job s c block p q kept kept2 ∷ []) (state_of old) (state_of new)
   put_here t s c kept kept2 puts =
       let e : Entry = put_entry mid.table.parity job s c block p q kept kept2 in
-      logged_here t (skips job f.passed ++ e ∷ []) (all_logged e puts.logs) (has_room e puts.logs) (puts.writes.heard t)
+      let l : LogsOf (e ∷ []) mid new = logs_of (e ∷ []) mid new puts.logs in
+      logged_here t (skips job f.passed ++ e ∷ []) (all_logged e l) (has_room e l) (puts.writes.heard t)
 
   -- the data block was not written
   none_step : (column : ℕ) → PutsNone told job mid.table.cursor.stripe column block mid new → column ≡ mid.table.cursor.column → told

@@ -21,14 +21,14 @@ use Rattle.pot_bytes.specs.Digests.{digest_of}
 use Rattle.pot_steps.specs.Stripe.{Sound, IsSound}
 use Rattle.pot_steps.specs.Flight.{partial_of, unfolded, weight_in, left_out, IsRelay}
 use Rattle.std.proofs.lemmas.Bool.Decides.{nat_tests}
-use Rattle.pot_steps.specs.Calls.{HopMeans, StandsIn}
+use Rattle.pot_steps.specs.Calls.{HopMeans, RelayStandsIn}
 use Rattle.pot_steps.specs.declared.rebuilding.Hopped.TheVariants as hopped
 use Rattle.pot_group.specs.Relaying.{acted, flown_to, HopsOver}
 use Rattle.pot_group.specs.declared.relaying.Advanced.TheVariants as advanced
 use Rattle.pot_group.specs.Group.{GroupParts, GroupView, IsSettled, state_of}
 use Rattle.pot_steps.specs.Flights.{without_flight, Acts, FoldsIn, WritesBack, IsFlying, FliesOver, flight_in, flights_after, flown}
 use Rattle.pot_steps.specs.Holdings.{Holdings, stripe_of}
-use Rattle.pot_steps.specs.RelaySteps.{AdvanceStep, Hopped, Hears}
+use Rattle.pot_steps.specs.RelaySteps.{AdvanceStep, Hopped, ArchiveHears}
 use Rattle.pot_steps.proofs.Acting.{weight-below}
 use Rattle.pot_steps.proofs.CallLemmas.{unfolds, next_positive, next_within, stands, two_relay}
 use Rattle.std.proofs.lemmas.List.{length-map}
@@ -42,7 +42,7 @@ use Rattle.pot_group.specs.Causes.{Covers, HasLost, Misses, archives_of, faults_
 use Rattle.pot_steps.specs.Losses.{KeepsHeld}
 use Rattle.pot_group.proofs.CauseLemmas.{archives_of-snoc, covers-stays}
 use Rattle.pot_shelves.proofs.ShelfLemmas.{keeps_refl, loses_refl, put_at-here, put_at-other}
-use Rattle.pot_group.specs.Heard.{Sum, Gives, IsSumOf, blinds_after}
+use Rattle.pot_group.specs.Heard.{Sum, GivesBlock, IsSumOf, blinds_after}
 use Rattle.pot_group.proofs.Framing.{frames_still, frames_write}
 use Rattle.pot_group.proofs.Hearing.{heard_fold}
 use Rattle.pot_group.proofs.Settled.{settled_act, settled_loses, same_columns, gone_lost, no_fault, one_fault}
@@ -60,7 +60,7 @@ unwritten Writes h number slot left here n q apart = put_at-other h number slot 
 pub quiet_act : (told : Type 0) (g : GroupView) (e : Entry) (given : List ℕ) → IsSettled told g → Legal g.table e → length g.log < log_bound
     → (after g.table e).columns ≡ g.table.columns → ((c : ℕ) → brought c e ≡ []) → (told → Acts g.table g.flights given e g.shelves.held g.shelves.held)
     → ((c : ℕ) → fault_of g.first.data_columns c e ≡ 0)
-    → (told → (c : ℕ) → c < width g.first → Misses g.table e c → HasLost g.shelves (archives_of g.first g.log c)) → (told → Gives g.table g.flights e given)
+    → (told → (c : ℕ) → c < width g.first → Misses g.table e c → HasLost g.shelves (archives_of g.first g.log c)) → (told → GivesBlock g.table g.flights e given)
     → IsSettled told (record g { table = after g.table e; log = g.log ++ e ∷ []; flights = flights_after g.table e given g.flights; blinds = blinds_after e given g.blinds })
 quiet_act told g e given settled legal room same none acts no_fault_of missed gives =
     settled_act told g e given g.shelves (λ t. g.shelves.held) settled legal room (keeps_refl g.shelves) (same_columns told g e g.shelves settled (keeps_refl g.shelves) same none)
@@ -176,7 +176,7 @@ module _ (told : Type 0) (g : GroupView) (now : Shelves) (job s c : ℕ) (f : Fl
           loses = (λ n m b e. e);
           elsewhere = (λ n m b ne e. (loses t n).keeps m b e);
         },
-        subst (λ o. IsSomeAnd o (λ f. Hears s c f.sum (state_of g) (state_of (record g { table = after g.table (Hop job s c); log = g.log ++ Hop job s c ∷ []; flights = map (flown s c sum) g.flights; shelves = now })))) (sym here)
+        subst (λ o. IsSomeAnd o (λ f. ArchiveHears s c f.sum (state_of g) (state_of (record g { table = after g.table (Hop job s c); log = g.log ++ Hop job s c ∷ []; flights = map (flown s c sum) g.flights; shelves = now })))) (sym here)
             (record { here = hears t; others = silent t }),
       )
 
@@ -327,7 +327,7 @@ pub written_all : {A : Type 0} (n : ℕ) (xs ys : List A) → n ≡ length ys �
 written_all n xs ys e l = ap (λ m. take m (xs ++ drop (length xs) ys)) (e ∙ sym l) ∙ take-append_seam xs (drop (length xs) ys)
 
 -- the flight stands in the table
-pub stands_in_table : (told : Type 0) (g : GroupView) (f : Flight) → IsSettled told g → flight_in g.flights f.relay.stripe ≡ Some f → StandsIn g.table f.relay
+pub stands_in_table : (told : Type 0) (g : GroupView) (f : Flight) → IsSettled told g → flight_in g.flights f.relay.stripe ≡ Some f → RelayStandsIn g.table f.relay
 stands_in_table told g f settled here = record { here = relay_of_flight g.table g.flights f.relay.stripe settled.relays ∙ ap relay_of here }
 
 -- what hop asks for, without what archives tell

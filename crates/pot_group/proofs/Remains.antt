@@ -1,5 +1,5 @@
 -- What becomes of a block in a data slot, whatever its column does later.
-use Rattle.std.proofs.Common.{◌≡◌, ◌≢◌, ◌⊎◌, inl, inr, ℕ, ◌+◌, ◌<◌, ◌≤◌, ◌==◌, ◌||◌, List, [], ◌∷◌, Option, Some, None, IfSome, IsSomeAnd, Bool, true, false, IsTrue, length, refl, sym, ap, ap₂, ◌∙◌, subst, arith, nat_lt, if◌then◌else◌}
+use Rattle.std.proofs.Common.{◌≡◌, ◌≢◌, ◌⊎◌, inl, inr, ℕ, suc, ◌+◌, ◌<◌, ◌≤◌, ◌==◌, ◌||◌, List, [], ◌∷◌, Option, Some, None, IfSome, IsSomeAnd, Bool, true, false, IsTrue, length, refl, sym, ap, ap₂, ◌∙◌, subst, arith, nat_lt, if◌then◌else◌}
 use Rattle.std.specs.Prelude.{Contains, nat_le, slice_index_or}
 use Rattle.std.proofs.lemmas.Bool.Decides.{nat_tests}
 use Rattle.std.proofs.lemmas.Bool.{cases_eq, cases_lt, eqb-true, or_cases}
@@ -23,7 +23,7 @@ use Rattle.pot_machine.proofs.Filled.{not_void}
 use Rattle.pot_machine.proofs.Kept.{after_keeps, losses_keep}
 use Rattle.pot_machine.proofs.LeftAlone.{columns-with_losses, data_stays, put_column, sizes_stay}
 use Rattle.pot_group.specs.Arrivals.{arrival, arrivals}
-use Rattle.pot_group.specs.Frames.{FitsIn, MayFail, MayWrite}
+use Rattle.pot_group.specs.Frames.{HasDigestOf, MayFail, MayWrite, Tries}
 use Rattle.pot_group.specs.Remaining.{BlocksRemain, HasServed, IsMendFault, KeepsServed, ServedIsKept, ServingHasServed}
 
 -- WHO SERVES
@@ -175,7 +175,7 @@ module _ (t : Table) (s c : ℕ) (d : Digest) (n : ℕ) (table : IsTable t) (low
       late (Some m) p h = (let l : s < m.upto = p h.1 in omega (arith, l, h.0))
 
   -- what fits into a slot that has the digest
-  fits : (n2 k : ℕ) (b : List ℕ) → s ≡ n2 → k ≡ c → FitsIn (slot_at t n2 k) b → digest_of b ≡ d
+  fits : (n2 k : ℕ) (b : List ℕ) → s ≡ n2 → k ≡ c → HasDigestOf (slot_at t n2 k) b → digest_of b ≡ d
   fits n2 k b es ek f = sym (same_Some d (digest_of b) (sym has.digest ∙ ap₂ (λ a b. digest_in (slot_at t a b)) es (sym ek) ∙ f))
 
   moving_both : (s2 : ℕ) (o : Option Moving) → s ≡ s2 → IsSomeAnd o (λ m. m.upto ≡ s2) → IsSomeAnd o (λ m. n ≡ m.to) → IsSomeAnd o (λ m. (m.upto ≡ s) × (n ≡ m.to))
@@ -185,22 +185,22 @@ module _ (t : Table) (s c : ℕ) (d : Digest) (n : ℕ) (table : IsTable t) (low
   last_wide : t.data_columns < width t
   last_wide = omega (arith, table.size.parity.0)
 
-  writes_fit : (e : Entry) → Legal t e → (b : List ℕ) → MayWrite t e n s b → digest_of b ≡ d
-  writes_fit (Put job s2 k digest parity_digest kept) legal b (es, inl h) = absurd (no_put s2 k legal.1 es h.0)
-  writes_fit (Put job s2 k digest parity_digest kept) legal b (es, inr h) = absurd (no_parity s2 t.data_columns (omega arith) last_wide h.0)
-  writes_fit (Put2 job s2 k digest parity_digest second_digest kept kept2) legal b (es, inl h) = absurd (no_put s2 k legal.1 es h.0)
-  writes_fit (Put2 job s2 k digest parity_digest second_digest kept kept2) legal b (es, inr (inl h)) = absurd (no_parity s2 t.data_columns (omega arith) last_wide h.0)
-  writes_fit (Put2 job s2 k digest parity_digest second_digest kept kept2) legal b (es, inr (inr h)) =
+  writes_fit : (tried : Tries) (i : ℕ) (e : Entry) → Legal t e → (b : List ℕ) → MayWrite tried i t e n s b → digest_of b ≡ d
+  writes_fit tried i (Put job s2 k digest parity_digest kept) legal b (es, inl h) = absurd (no_put s2 k legal.1 es h.0)
+  writes_fit tried i (Put job s2 k digest parity_digest kept) legal b (es, inr h) = absurd (no_parity s2 t.data_columns (omega arith) last_wide h.0)
+  writes_fit tried i (Put2 job s2 k digest parity_digest second_digest kept kept2) legal b (es, inl h) = absurd (no_put s2 k legal.1 es h.0)
+  writes_fit tried i (Put2 job s2 k digest parity_digest second_digest kept kept2) legal b (es, inr (inl h)) = absurd (no_parity s2 t.data_columns (omega arith) last_wide h.0)
+  writes_fit tried i (Put2 job s2 k digest parity_digest second_digest kept kept2) legal b (es, inr (inr h)) =
       absurd (no_parity s2 (t.data_columns + 1) (omega arith) (omega (arith, legal.0)) h.0)
-  writes_fit (Mended job s2 k) legal b h = fits s2 k b h.0 (of_column s2 k legal.0.1 h.1) h.2
-  writes_fit (Moved job s2 k copied) legal b h = absurd (no_target k legal.0.0 (moving_both s2 (column_at t k).moving h.0 legal.0.1 h.2))
-  writes_fit (Fault job s2 k) legal b (es, inl h, inl void) = absurd (empty (slot_at t s c) filled (ap₂ (λ a b. slot_at t a b) es (sym (of_column s2 k legal.1 h.1)) ∙ void))
+  writes_fit tried i (Mended job s2 k) legal b h = fits s2 k b h.0 (of_column s2 k legal.0.1 h.1) h.2
+  writes_fit tried i (Moved job s2 k copied) legal b h = absurd (no_target k legal.0.0 (moving_both s2 (column_at t k).moving h.0 legal.0.1 h.2))
+  writes_fit tried i (Fault job s2 k) legal b (es, inl h, inl (void, kept)) = absurd (empty (slot_at t s c) filled (ap₂ (λ a b. slot_at t a b) es (sym (of_column s2 k legal.1 h.1)) ∙ void))
     where
       empty : (x : SlotState) → is_void x ≡ false → x ≡ Void → ⊥
       empty x f e = cc
-  writes_fit (Fault job s2 k) legal b (es, inl h, inr f) = fits s2 k b es (of_column s2 k legal.1 h.1) f
-  writes_fit (Fault job s2 k) legal b (es, inr h, f) = absurd (no_target k legal.1 (subst (λ m. IsSomeAnd (column_at t k).moving (λ x. (x.upto ≡ m) × (n ≡ x.to))) (sym es) h.1))
-  writes_fit _ legal b h = absurd h
+  writes_fit tried i (Fault job s2 k) legal b (es, inl h, inr f) = fits s2 k b es (of_column s2 k legal.1 h.1) f
+  writes_fit tried i (Fault job s2 k) legal b (es, inr h, f) = absurd (no_target k legal.1 (subst (λ m. IsSomeAnd (column_at t k).moving (λ x. (x.upto ≡ m) × (n ≡ x.to))) (sym es) h.1))
+  writes_fit tried i _ legal b h = absurd h
 
   unsound : (x : SlotState) → digest_in x ≡ Some d → is_live x ≡ false → IsTrue (is_unsound x)
   unsound Void e l = absurd (cc)
@@ -223,7 +223,7 @@ module _ (t : Table) (s c : ℕ) (d : Digest) (n : ℕ) (table : IsTable t) (low
 pub served_kept : ServedIsKept
 served_kept t u [] s c d n table replays low has fresh = record {
   now = subst (λ x. HasServed x s c d n) (sym replays) has;
-  wrote = λ b h. absurd h;
+  wrote = λ tried i b h. absurd h;
   failed = λ h. absurd h;
 }
 served_kept t u (e ∷ log) s c d n table replays low has fresh =
@@ -233,12 +233,12 @@ served_kept t u (e ∷ log) s c d n table replays low has fresh =
     (λ h. fresh (Contains-append_right (arrival e) (arrivals log) n h)) in
     record {
       now = rest.now;
-      wrote = λ b h. elim h [ inl y ↦ writes_fit t s c d n table low has e replays.0 b y | inr y ↦ rest.wrote b y ];
+      wrote = λ tried i b h. elim h [ inl y ↦ writes_fit t s c d n table low has tried i e replays.0 b y | inr y ↦ rest.wrote tried (suc i) b y ];
       failed = λ h. elim h [ inl y ↦ inl (fails_mend t s c d n table low has e replays.0 y) | inr y ↦ inr (rest.failed y) ];
     }
 
 pub blocks_remain : BlocksRemain
-blocks_remain t u log shelves s c d n block table replays framed low has fresh was is_d =
+blocks_remain t u log tried shelves s c d n block table replays framed low has fresh was is_d =
     let kept : KeepsServed t u log s c d n = served_kept t u log s c d n table replays low has fresh in
     elim (framed.kept n s block was) [
       | inl y ↦ inl (
@@ -246,7 +246,7 @@ blocks_remain t u log shelves s c d n block table replays framed low has fresh w
         y.1,
         elim (framed.held n s y.0 y.1) [
           | inl before ↦ ap digest_of (same_Some y.0 block (sym before ∙ was)) ∙ is_d
-          | inr now ↦ kept.wrote y.0 now
+          | inr now ↦ kept.wrote tried 0 y.0 now
         ],
       )
       | inr y ↦ elim y [ inl z ↦ inr (inl (kept.failed z)) | inr z ↦ inr (inr z) ]

@@ -1,6 +1,7 @@
 -- What a call of a group made, from what it did: its entries, how the group grew by them, and its
 -- row.
-use Rattle.std.proofs.Common.{◌≡◌, ◌≢◌, ◌<◌, ◌++◌, ℕ, List, [], ◌∷◌, length, refl, ap, sym, subst, append-nil}
+use Rattle.std.proofs.Common.{◌≡◌, ◌≢◌, inl, inr, ◌<◌, ◌≤◌, ◌+◌, ◌++◌, ℕ, List, [], ◌∷◌, length, refl, ap, sym, ◌∙◌, subst, arith, append-nil, length-append}
+use Rattle.std.proofs.lemmas.List.Elements.{Contains-push_cases}
 use Rattle.std.specs.Prelude.{Option, None, Some, IsSomeAnd, Result, Ok, Err, Contains}
 use Rattle.pot_bytes.specs.declared.rack.Place.{Place}
 use Rattle.pot_bytes.specs.Rack.{log_bound}
@@ -27,19 +28,24 @@ use Rattle.pot_group.specs.declared.copying.MoveStep.TheVariants as moved
 use Rattle.pot_group.specs.declared.copying.MoveFault.{MoveFault}
 use Rattle.pot_group.specs.declared.copying.MoveFault.TheVariants as stopped
 use Rattle.pot_shelves.specs.Shelves.{Brings, Keeps}
-use Rattle.pot_group.specs.Group.{GroupParts, GroupView, Logs, put_as, state_of, view_of}
-use Rattle.pot_group.specs.Relaying.{Acts, Advances, BeginMeans, Moves, begin_as}
-use Rattle.pot_group.specs.Moving.{Comes, MovesOn, Steps}
-use Rattle.pot_group.specs.Calls.{AdvanceCall, BeginCall, BeginTells, ComesBy, Grows, Made, MoveEntries, MoveStepCall, PutCall, PutTells, RelayEntries}
+use Rattle.pot_group.specs.Group.{GroupParts, GroupView, LogsOf, put_as, state_of, view_of}
+use Rattle.pot_group.specs.Relaying.{LogsEntry, Advances, BeginMeans, Moves, begin_as}
+use Rattle.pot_group.specs.Moving.{Comes, MovesOn, StepsMove}
+use Rattle.pot_group.specs.Calls.{AdvanceCall, BeginCall, BeginTells, ComesBy, GainsTries, Grows, Made, MoveEntries, MoveStepCall, PutCall, PutTells, PutTries, RelayEntries}
 use Rattle.pot_shelves.proofs.ShelfLemmas.{keeps_refl}
 
 -- HOW A GROUP GROWS
 
-pub grows_keeps : (old new : GroupView) (entries : List Entry) → new.number ≡ old.number → new.first ≡ old.first → new.log ≡ old.log ++ entries → Keeps old.shelves new.shelves → Grows old new entries
-grows_keeps old new entries number first log keeps = record {
+-- where no block of a put is kept
+pub no_tries : (old new : GroupView) → new.tried ≡ old.tried → GainsTries old new
+no_tries old new same = ([], same ∙ sym (append-nil old.tried), λ x h. absurd (omega (arith, h.1)))
+
+pub grows_keeps : (old new : GroupView) (entries : List Entry) → new.number ≡ old.number → new.first ≡ old.first → new.log ≡ old.log ++ entries → GainsTries old new → Keeps old.shelves new.shelves → Grows old new entries
+grows_keeps old new entries number first log tried keeps = record {
   number = number;
   first = first;
   log = log;
+  tried = tried;
   faults_taken = λ n c. keeps.faults_taken n;
   losses_taken = λ n c. keeps.losses_taken n;
   faults_opened = λ n c. keeps.faults_opened n;
@@ -48,13 +54,13 @@ grows_keeps old new entries number first log keeps = record {
 }
 
 pub grows_same : (old new : GroupView) → new ≡ old → Grows old new []
-grows_same old new e = subst (λ (v : GroupView). Grows old v []) (sym e) (grows_keeps old old [] refl refl (sym (append-nil old.log)) (keeps_refl old.shelves))
+grows_same old new e = subst (λ (v : GroupView). Grows old v []) (sym e) (grows_keeps old old [] refl refl (sym (append-nil old.log)) (no_tries old old refl) (keeps_refl old.shelves))
 
-acts_grow : (e : Entry) (given : List ℕ) (old new : GroupView) → Acts e given old new → Keeps old.shelves new.shelves → Grows old new (e ∷ [])
-acts_grow e given old new acts keeps = grows_keeps old new (e ∷ []) acts.number acts.first acts.log keeps
+acts_grow : (e : Entry) (given : List ℕ) (old new : GroupView) → LogsEntry e given old new → Keeps old.shelves new.shelves → Grows old new (e ∷ [])
+acts_grow e given old new acts keeps = grows_keeps old new (e ∷ []) acts.number acts.first acts.log (no_tries old new acts.tried) keeps
 
 -- an archive came under a number that none has
-brings_grow : (told : Type 0) (to : ℕ) (m : Meaning) (e : Entry) (old new : GroupView) → Acts e [] old new → Brings told to m old.shelves new.shelves
+brings_grow : (told : Type 0) (to : ℕ) (m : Meaning) (e : Entry) (old new : GroupView) → LogsEntry e [] old new → Brings told to m old.shelves new.shelves
     → (Contains old.shelves.numbers to → ⊥) → Grows old new (e ∷ [])
 brings_grow told to m e old new acts brings fresh =
     let other : (n : ℕ) → Contains old.shelves.numbers n → n ≢ to = λ n c q. fresh (subst (λ k. Contains old.shelves.numbers k) q c) in
@@ -62,6 +68,7 @@ brings_grow told to m e old new acts brings fresh =
       number = acts.number;
       first = acts.first;
       log = acts.log;
+      tried = no_tries old new acts.tried;
       faults_taken = λ n c. (brings.same_faults n (other n c)).1;
       losses_taken = λ n c. (brings.same_losses n (other n c)).1;
       faults_opened = λ n c. (brings.same_opened n (other n c)).0;
@@ -71,15 +78,38 @@ brings_grow told to m e old new acts brings fresh =
 
 -- A PUT
 
--- what a put logged, and what its answer says
+-- what a put logged, what its answer says, and which block it kept
 abbrev pub PutMade : ℕ → List ℕ → Result Place PutFault → GroupView → GroupView → Type 0
-PutMade job block result old new = (entries : List Entry) × Logs entries old new × PutTells job block result old new entries
+PutMade job block result old new = (entries : List Entry) × LogsOf entries old new × PutTells job block result old new entries × PutTries job block result old new entries
+
+put_gains : (job : ℕ) (block : List ℕ) (result : Result Place PutFault) (old new : GroupView) (entries : List Entry) → new.log ≡ old.log ++ entries → PutTries job block result old new entries → GainsTries old new
+put_gains job block (Ok place) old new entries log same = no_tries old new same
+put_gains job block (Err fault.LogFull) old new entries log same = no_tries old new same
+put_gains job block (Err fault.Full) old new entries log same = no_tries old new same
+put_gains job block (Err (fault.Faulted column)) old new entries log (inr t) = no_tries old new t.1
+put_gains job block (Err (fault.Faulted column)) old new entries log (inl (at, (before, s, is, now))) =
+    ((length (old.log ++ before), block) ∷ [], now, λ x h. subst (λ (y : ℕ × List ℕ). (length old.log ≤ y.0) × (y.0 < length new.log)) (only x h) (omega (arith, far), omega (arith, far, long, end)))
+  where
+    far : length (old.log ++ before) ≡ length old.log + length before
+    far = length-append old.log before
+
+    end : length (before ++ entry.Fault job s column ∷ []) ≡ length before + 1
+    end = length-append before (entry.Fault job s column ∷ [])
+
+    long : length new.log ≡ length old.log + length (before ++ entry.Fault job s column ∷ [])
+    long = ap length log ∙ ap (λ l. length (old.log ++ l)) is ∙ length-append old.log (before ++ entry.Fault job s column ∷ [])
+
+    only : (x : ℕ × List ℕ) → Contains ((length (old.log ++ before), block) ∷ []) x → (length (old.log ++ before), block) ≡ x
+    only x h = elim (Contains-push_cases [] (length (old.log ++ before), block) x h) [
+      | inl y ↦ absurd (omega (arith, y.1))
+      | inr y ↦ y
+    ]
 
 pub put_made : (told : Type 0) (job : ℕ) (block : List ℕ) (result : Result Place PutFault) (old new : GroupView) → PutMade job block result old new
     → (length old.log ≡ log_bound → (result ≡ Err fault.LogFull) × (new ≡ old)) → Keeps old.shelves new.shelves
     → (told → PutStep job block (put_as result) (state_of old) (state_of new)) → Made (PutCall told job block result) old new
 put_made told job block result old new m full keeps step =
-    (m.0, grows_keeps old new m.0 m.1.number m.1.first m.1.log keeps, record { logs = m.1; tells = m.2; full = full; keeps = keeps; step = step })
+    (m.0, grows_keeps old new m.0 m.1.number m.1.first m.1.log (put_gains job block result old new m.0 m.1.log m.3) keeps, record { logs = m.1; tries = m.3; tells = m.2; full = full; keeps = keeps; step = step })
 
 -- ONE ENTRY
 
@@ -106,14 +136,14 @@ module _ {A : Type 0} (meaning : A → Meaning) (told : Type 0) (job : ℕ) (pla
   begun (Ok u) m =
       let e = entry.Begin job place.stripe place.column in
       let shelves = ap (λ (g : GroupParts A). (view g).shelves) m.2 in
-      let acts : Acts e blind (view old) (view new) =
-      subst (λ (g : GroupParts A). Acts e blind (view old) (view g)) (sym m.2) (record { number = refl; first = refl; legal = m.1; table = refl; log = refl; flights = refl; blinds = refl }) in
+      let acts : LogsEntry e blind (view old) (view new) =
+      subst (λ (g : GroupParts A). LogsEntry e blind (view old) (view g)) (sym m.2) (record { number = refl; first = refl; legal = m.1; table = refl; log = refl; flights = refl; blinds = refl; tried = refl }) in
       (e ∷ [], acts_grow e blind (view old) (view new) acts (subst (λ s. Keeps (view old).shelves s) (sym shelves) (keeps_refl (view old).shelves)), (refl, m.0, acts, shelves))
   begun (Err (refused.TwoGone first second)) m =
       let e = entry.Stuck job place.stripe place.column second in
       let shelves = ap (λ (g : GroupParts A). (view g).shelves) m.3 in
-      let acts : Acts e [] (view old) (view new) =
-      subst (λ (g : GroupParts A). Acts e [] (view old) (view g)) (sym m.3) (record { number = refl; first = refl; legal = m.2; table = refl; log = refl; flights = refl; blinds = refl }) in
+      let acts : LogsEntry e [] (view old) (view new) =
+      subst (λ (g : GroupParts A). LogsEntry e [] (view old) (view g)) (sym m.3) (record { number = refl; first = refl; legal = m.2; table = refl; log = refl; flights = refl; blinds = refl; tried = refl }) in
       (e ∷ [], acts_grow e [] (view old) (view new) acts (subst (λ s. Keeps (view old).shelves s) (sym shelves) (keeps_refl (view old).shelves)), (refl, m.0, m.1, acts, shelves))
   begun (Err refused.LogFull) m = (let same = ap view m.0 in begun_same (Err refused.LogFull) same (refl, same, m.1))
   begun (Err refused.Whole) m = (let same = ap view m.1 in begun_same (Err refused.Whole) same (refl, same, m.0, m.2))
@@ -183,7 +213,7 @@ module _ (told : Type 0) (job c : ℕ) (old new : GroupView) where
   moved_on keeps (Err stopped.LogFull) m = absurd m
   moved_on keeps (Err stopped.Idle) m = absurd m
 
-  pub move_made : (answer : Result MoveStep MoveFault) → length old.log < log_bound → Steps told job c answer old new → Made (MoveStepCall told job c answer) old new
+  pub move_made : (answer : Result MoveStep MoveFault) → length old.log < log_bound → StepsMove told job c answer old new → Made (MoveStepCall told job c answer) old new
   move_made (Ok moved.Copied) room a =
       (let r = moved_on a.keeps (Ok moved.Copied) a.moves in (r.0, r.1, record { tells = (room, a.moves, r.2); keeps = a.keeps; step = a.steps; writes = a.writes }))
   move_made (Ok moved.Passed) room a =

@@ -25,12 +25,13 @@ use Rattle.pot_steps.proofs.Acting.{act_keeps, loss_keeps_all}
 use Rattle.pot_steps.proofs.ActingLive.{act_keeps_live}
 use Rattle.pot_steps.proofs.FlightLists.{flights_go_on}
 use Rattle.pot_steps.proofs.Losses.{losses_keep_live}
-use Rattle.pot_shelves.specs.Shelves.{Shelves, Keeps, Stays, LosesByCount}
+use Rattle.pot_shelves.specs.Shelves.{Shelves, Keeps, ShelvesStay, LosesByCount}
 use Rattle.pot_group.specs.Causes.{Covers, HasLost, Misses, WhereMissed, archives_of, faults_in, fault_of, brought}
 use Rattle.pot_group.specs.Group.{GroupView, IsSettled, IsQuiet, LostSince}
 use Rattle.pot_shelves.proofs.ShelfLemmas.{keeps_refl, loses_refl, lost_rose, rose_more}
-use Rattle.pot_group.specs.Heard.{Sum, Gives, IsSumOf, HasHeard, blinds_after, begins}
-use Rattle.pot_group.proofs.Framing.{Frames, framed_loses, framed_entry, frames_still}
+use Rattle.pot_group.specs.Frames.{ArePlaced, Tries}
+use Rattle.pot_group.specs.Heard.{Sum, GivesBlock, IsSumOf, HasHeard, blinds_after, begins}
+use Rattle.pot_group.proofs.Framing.{AreIn, Frames, placed_later, framed_loses, framed_entry, frames_still}
 use Rattle.pot_group.proofs.Hearing.{heard_on, heard_entry, begins_more}
 use Rattle.pot_group.proofs.CauseLemmas.{faults_in-snoc, archives_of-snoc, WhereMissed-snoc, WhereMissed-mono, covers-stays, has_lost-mono}
 
@@ -89,6 +90,7 @@ pub settled_loses : (told : Type 0) (g : GroupView) (s : Shelves) → IsSettled 
     → (told → (n : ℕ) (x : Sum) → Contains (s.heard n) x → Contains (g.shelves.heard n) x ⊎ IsSumOf g.table g.flights n x) → IsSettled told (record g { shelves = s })
 settled_loses told g s settled keeps loses same hears = record {
   blinds = settled.blinds;
+  tried = settled.tried;
   heard = (λ t. heard_on g.first g.table g.log g.blinds g.flights g.shelves s settled.replay keeps (hears t) (settled.heard t));
   frame = (λ t. framed_loses g.first g.log g.shelves s keeps (loses t) (settled.losses t) (same t) (settled.frame t));
   replay = settled.replay;
@@ -116,7 +118,7 @@ settled_loses told g s settled keeps loses same hears = record {
   };
 }
 
-pub settled_stays : (told : Type 0) (g : GroupView) (s : Shelves) → IsSettled told g → Stays told g.shelves s → IsSettled told (record g { shelves = s })
+pub settled_stays : (told : Type 0) (g : GroupView) (s : Shelves) → IsSettled told g → ShelvesStay told g.shelves s → IsSettled told (record g { shelves = s })
 settled_stays told g s settled stays = settled_loses told g s settled stays.keeps stays.loses stays.history (λ t n x c. inl (subst (λ l. Contains l x) (stays.heard t n) c))
 
 -- what an entry leaves of the columns, and which archives it brings
@@ -125,18 +127,22 @@ pub record LeavesColumns (told : Type 0) (g : GroupView) (e : Entry) (s : Shelve
   pub serves : (c number : ℕ) → c < width g.table → IsTrue (names (column_at (after g.table e) c) number) → Contains (archives_of g.first (g.log ++ e ∷ []) c) number
   pub archives : (c number : ℕ) → Contains (archives_of g.first g.log c) number → Contains (archives_of g.first (g.log ++ e ∷ []) c) number
 
+placed_on : (log : List Entry) (e : Entry) (tried : Tries) → ArePlaced tried (length log + 1) → ArePlaced tried (length (log ++ e ∷ []))
+placed_on log e tried placed = subst (λ n. ArePlaced tried n) (sym (length-append log (e ∷ []))) placed
+
 -- One entry, with what the archives are to hold then, and the block that is handed in with it.
 pub settled_act : (told : Type 0) (g : GroupView) (e : Entry) (given : List ℕ) (s : Shelves) (h : told → Holdings) → IsSettled told g → Legal g.table e → length g.log < log_bound
     → Keeps g.shelves s → LeavesColumns told g e s → ((t : told) → LosesByCount (h t) g.shelves s) → ((t : told) → Acts g.table g.flights given e g.shelves.held (h t))
     → ((t : told) → ((n : ℕ) → PutsInto e n → ⊥) → KeepsHeld g.table g.shelves.held (h t))
     → ((c : ℕ) → c < width g.first → Covers s (archives_of g.first (g.log ++ e ∷ []) c) (faults_in g.first.data_columns c g.log + fault_of g.first.data_columns c e))
     → (told → (c : ℕ) → c < width g.first → Misses g.table e c → HasLost s (archives_of g.first (g.log ++ e ∷ []) c))
-    → ((t : told) → Frames g.table e g.shelves (h t) s) → (told → (n : ℕ) → s.heard n ≡ g.shelves.heard n) → (told → Gives g.table g.flights e given)
+    → ((t : told) → Frames g.tried (length g.log) g.table e g.shelves (h t) s) → (told → (n : ℕ) → s.heard n ≡ g.shelves.heard n) → (told → GivesBlock g.table g.flights e given)
     → IsSettled told (record g { table = after g.table e; log = g.log ++ e ∷ []; flights = flights_after g.table e given g.flights; blinds = blinds_after e given g.blinds; shelves = s })
 settled_act told g e given s h settled legal room keeps columns loses acts kept covers missed frames silent gives = record {
   blinds = begins_more g.log e given g.blinds settled.blinds;
+  tried = placed_on g.log e g.tried (placed_later g.tried (length g.log) settled.tried);
   heard = (λ t. heard_entry g.first g.table g.log e given g.blinds g.flights g.shelves s settled.replay keeps (silent t) (gives t) (settled.heard t));
-  frame = (λ t. framed_entry g.first g.table g.log e g.shelves s (h t) settled.replay keeps (loses t) (settled.losses t) (frames t) (settled.frame t));
+  frame = (λ t. framed_entry g.first g.table g.log e g.shelves s (h t) settled.replay keeps (loses t) (settled.losses t) (λ i b q. q) (frames t) (settled.frame t));
   replay = replays_more g.first g.log g.table e settled.replay legal;
   table = after_keeps g.table e settled.table legal;
   relays = flights_go_on g.table e given g.flights settled.relays;
@@ -188,18 +194,19 @@ same_columns told g e s settled keeps same none = record {
     at : (c : ℕ) → column_at (after g.table e) c ≡ column_at g.table c
     at c = ap (λ cs. slice_index_or cs c no_column) same
 
--- an entry, with what the archives are to hold then
-pub settled_entry : (told : Type 0) (g : GroupView) (e : Entry) (s : Shelves) (h : told → Holdings) → IsSettled told g → LeavesShape g.table e → Legal g.table e → length g.log < log_bound
+-- an entry, with what the archives are to hold then, and with the blocks of puts that are kept then
+pub settled_trying : (told : Type 0) (g : GroupView) (tried : Tries) (e : Entry) (s : Shelves) (h : told → Holdings) → AreIn g.tried tried → ArePlaced tried (length g.log + 1) → IsSettled told g → LeavesShape g.table e → Legal g.table e → length g.log < log_bound
     → Keeps g.shelves s → ((t : told) → LosesByCount (h t) g.shelves s) → ((t : told) → Acts g.table g.flights [] e g.shelves.held (h t))
     → ((t : told) → ((n : ℕ) → PutsInto e n → ⊥) → KeepsHeld g.table g.shelves.held (h t))
     → ((c : ℕ) → c < width g.first → Covers s (archives_of g.first g.log c) (faults_in g.first.data_columns c g.log + fault_of g.first.data_columns c e))
     → (told → (c : ℕ) → c < width g.first → Misses g.table e c → HasLost s (archives_of g.first g.log c))
-    → ((t : told) → Frames g.table e g.shelves (h t) s) → (told → (n : ℕ) → s.heard n ≡ g.shelves.heard n) → (told → Gives g.table g.flights e [])
-    → IsSettled told (record g { table = after g.table e; log = g.log ++ e ∷ []; shelves = s })
-settled_entry told g e s h settled shape legal room keeps loses enters kept covers missed frames silent gives = record {
+    → ((t : told) → Frames tried (length g.log) g.table e g.shelves (h t) s) → (told → (n : ℕ) → s.heard n ≡ g.shelves.heard n) → (told → GivesBlock g.table g.flights e [])
+    → IsSettled told (record g { table = after g.table e; log = g.log ++ e ∷ []; tried = tried; shelves = s })
+settled_trying told g tried e s h are placed settled shape legal room keeps loses enters kept covers missed frames silent gives = record {
   blinds = subst (λ bs. length bs ≡ begins (g.log ++ e ∷ [])) (shape.blinds g.blinds) (begins_more g.log e [] g.blinds settled.blinds);
+  tried = placed_on g.log e tried placed;
   heard = (λ t. subst (λ bs. HasHeard g.first (g.log ++ e ∷ []) bs g.flights s) (shape.blinds g.blinds) (subst (λ fs. HasHeard g.first (g.log ++ e ∷ []) (blinds_after e [] g.blinds) fs s) (shape.flights g.flights) (heard_entry g.first g.table g.log e [] g.blinds g.flights g.shelves s settled.replay keeps (silent t) (gives t) (settled.heard t))));
-  frame = (λ t. framed_entry g.first g.table g.log e g.shelves s (h t) settled.replay keeps (loses t) (settled.losses t) (frames t) (settled.frame t));
+  frame = (λ t. framed_entry g.first g.table g.log e g.shelves s (h t) settled.replay keeps (loses t) (settled.losses t) are (frames t) (settled.frame t));
   replay = replays_more g.first g.log g.table e settled.replay legal;
   table = after_keeps g.table e settled.table legal;
   relays = subst (λ fs. AreFlights (after g.table e) fs) (shape.flights g.flights) (flights_go_on g.table e [] g.flights settled.relays);
@@ -241,11 +248,22 @@ settled_entry told g e s h settled shape legal room keeps loses enters kept cove
     live_then t = losses_keep_live (LostSince g.shelves) (LostSince s) g.table g.shelves.held g.shelves.held (since told g s h settled keeps loses t)
         (record { keeps = (λ n c b ln lc nv e. inl e) }) (settled.live t)
 
+-- and where no put failed so
+pub settled_entry : (told : Type 0) (g : GroupView) (e : Entry) (s : Shelves) (h : told → Holdings) → IsSettled told g → LeavesShape g.table e → Legal g.table e → length g.log < log_bound
+    → Keeps g.shelves s → ((t : told) → LosesByCount (h t) g.shelves s) → ((t : told) → Acts g.table g.flights [] e g.shelves.held (h t))
+    → ((t : told) → ((n : ℕ) → PutsInto e n → ⊥) → KeepsHeld g.table g.shelves.held (h t))
+    → ((c : ℕ) → c < width g.first → Covers s (archives_of g.first g.log c) (faults_in g.first.data_columns c g.log + fault_of g.first.data_columns c e))
+    → (told → (c : ℕ) → c < width g.first → Misses g.table e c → HasLost s (archives_of g.first g.log c))
+    → ((t : told) → Frames g.tried (length g.log) g.table e g.shelves (h t) s) → (told → (n : ℕ) → s.heard n ≡ g.shelves.heard n) → (told → GivesBlock g.table g.flights e [])
+    → IsSettled told (record g { table = after g.table e; log = g.log ++ e ∷ []; shelves = s })
+settled_entry told g e s h settled shape legal room keeps loses enters kept covers missed frames silent gives =
+    settled_trying told g g.tried e s h (λ i b q. q) (placed_later g.tried (length g.log) settled.tried) settled shape legal room keeps loses enters kept covers missed frames silent gives
+
 -- an entry that says nothing untrue and puts no block
 module _ (told : Type 0) (g : GroupView) (e : Entry) (settled : IsSettled told g) (legal : Legal g.table e) (room : length g.log < log_bound) where
   quiet : LeavesShape g.table e → (told → Acts g.table g.flights [] e g.shelves.held g.shelves.held)
       → ((c : ℕ) → c < width g.first → Covers g.shelves (archives_of g.first g.log c) (faults_in g.first.data_columns c g.log + fault_of g.first.data_columns c e))
-      → (told → (c : ℕ) → c < width g.first → Misses g.table e c → HasLost g.shelves (archives_of g.first g.log c)) → (told → Gives g.table g.flights e [])
+      → (told → (c : ℕ) → c < width g.first → Misses g.table e c → HasLost g.shelves (archives_of g.first g.log c)) → (told → GivesBlock g.table g.flights e [])
       → IsSettled told (record g { table = after g.table e; log = g.log ++ e ∷ [] })
   quiet shape enters covers missed gives =
       settled_entry told g e g.shelves (λ t. g.shelves.held) settled shape legal room (keeps_refl g.shelves) (λ t. loses_refl g.shelves) enters (λ t none n c b ln lc nv q. q) covers missed (λ t. frames_still g.table e g.shelves) (λ t n. refl) gives

@@ -15,19 +15,19 @@ use Rattle.pot_machine.specs.Table.{Table, width, slot_at, column_at, serving_at
 use Rattle.pot_machine.specs.Machine.{Legal, after}
 use Rattle.pot_steps.specs.Stripe.{Sound, IsSound}
 use Rattle.pot_steps.specs.Holdings.{stripe_of}
-use Rattle.pot_steps.specs.RelaySteps.{Logged, Writes}
+use Rattle.pot_steps.specs.RelaySteps.{Logged, EntryWrites}
 use Rattle.pot_group.specs.declared.reads.Found.TheVariants as found
 use Rattle.pot_group.specs.declared.copying.MoveStep.{MoveStep}
 use Rattle.pot_group.specs.declared.copying.MoveStep.TheVariants as moved
 use Rattle.pot_group.specs.declared.copying.MoveFault.{MoveFault}
 use Rattle.pot_group.specs.declared.copying.MoveFault.TheVariants as failed
-use Rattle.pot_shelves.specs.Shelves.{LosesByCount, Shelved, Shelves, Stays, WritesAt, WritesInto, plain, put_at}
+use Rattle.pot_shelves.specs.Shelves.{LosesByCount, Shelved, Shelves, ShelvesStay, WritesAt, WritesInto, plain, put_at}
 use Rattle.pot_group.specs.Reads.{ReadsByDigest}
 use Rattle.pot_group.specs.Group.{GroupParts, GroupView, IsSettled, noted, state_of, view_of, with_archives}
-use Rattle.pot_group.specs.Relaying.{Acts, acted}
+use Rattle.pot_group.specs.Relaying.{LogsEntry, acted}
 use Rattle.pot_steps.specs.MoveSteps.{MoveStep as IsMoveStep}
 use Rattle.pot_steps.proofs.MendingSteps.{some_of}
-use Rattle.pot_group.specs.Moving.{CopiesInto, FailedBy, MoveWrites, MovesOn, OnMove, Steps, move_as}
+use Rattle.pot_group.specs.Moving.{CopiesInto, FailedBy, MoveWrites, MovesOn, OnMove, StepsMove, move_as}
 use Rattle.pot_group.proofs.BeginSteps.{logged_in}
 use Rattle.pot_group.proofs.MoveExits.{beside, copied_settled, copies, move_end_settled, passed_settled, target_named, uncopied_settled}
 use Rattle.pot_group.proofs.RelayExits.{unwritten}
@@ -93,10 +93,10 @@ module _ (told : Type 0) (g : GroupView) (job c : ℕ) (m : Moving) (settled : I
           (subst (λ log. IsSettled told (record g { table = after g.table (Moved job m.upto c true); log = log; shelves = now })) (sym (el ∙ ap (λ e. g.log ++ e ∷ []) is))
           (copied_settled told g m.upto c m settled column moving refl now job block room (copy_legal lt live) sound w))
 
-      pub copied_steps : Steps told job c (Ok moved.Copied) g (record g { table = t; log = log; shelves = now })
+      pub copied_steps : StepsMove told job c (Ok moved.Copied) g (record g { table = t; log = log; shelves = now })
       copied_steps = record {
-        moves = on_move (λ n. (n.upto < g.table.stripes) × IsTrue (is_live (slot_at g.table n.upto c)) × Acts (Moved job n.upto c true) [] g (record g { table = t; log = log; shelves = now }))
-            (lt, live, record { number = refl; first = refl; legal = copy_legal lt live; table = et ∙ ap (after g.table) is; log = el ∙ ap (λ e. g.log ++ e ∷ []) is; flights = refl; blinds = refl });
+        moves = on_move (λ n. (n.upto < g.table.stripes) × IsTrue (is_live (slot_at g.table n.upto c)) × LogsEntry (Moved job n.upto c true) [] g (record g { table = t; log = log; shelves = now }))
+            (lt, live, record { number = refl; first = refl; legal = copy_legal lt live; table = et ∙ ap (after g.table) is; log = el ∙ ap (λ e. g.log ++ e ∷ []) is; flights = refl; blinds = refl; tried = refl });
         keeps = w.keeps;
         steps = λ k. (
           m.upto,
@@ -111,7 +111,7 @@ module _ (told : Type 0) (g : GroupView) (job c : ℕ) (m : Moving) (settled : I
             lost = (λ n q b e. e);
             acts = copies told g m.upto c m settled column moving refl now job block room (copy_legal lt live) sound w k;
             loses = (λ n q b e. (subst (λ left. LosesByCount (put_at g.shelves.held m.to m.upto left) g.shelves now) ((w.wrote k).1) (w.wrote k).2 n).keeps q b e);
-            elsewhere = (λ n q b ne e. sym (unwritten (Writes g.table (Moved job m.upto c true)) g.shelves.held m.to m.upto (w.wrote k).0 (refl, on_move (λ x. m.to ≡ x.to) refl, refl) n q ne) ∙ ((w.wrote k).2 n).keeps q b e);
+            elsewhere = (λ n q b ne e. sym (unwritten (EntryWrites g.table (Moved job m.upto c true)) g.shelves.held m.to m.upto (w.wrote k).0 (refl, on_move (λ x. m.to ≡ x.to) refl, refl) n q ne) ∙ ((w.wrote k).2 n).keeps q b e);
           },
           w.heard k,
         );
@@ -126,14 +126,14 @@ module _ (told : Type 0) (g : GroupView) (job c : ℕ) (m : Moving) (settled : I
           (subst (λ log. IsSettled told (record g { table = after g.table (Fault job m.upto c); log = log; shelves = now })) (sym el)
           (uncopied_settled told g m.upto c m settled column moving refl now job block room lt sound e w))
 
-      pub uncopied_steps : (told → IsSound (stripe_of g.table g.shelves.held m.upto) c block) → Steps told job c (Err (failed.Faulted c)) g (record g { table = t; log = log; shelves = now })
+      pub uncopied_steps : (told → IsSound (stripe_of g.table g.shelves.held m.upto) c block) → StepsMove told job c (Err (failed.Faulted c)) g (record g { table = t; log = log; shelves = now })
       uncopied_steps sound = record {
         moves = (
           refl,
           on_move (λ n. (n.upto < g.table.stripes) × IsTrue (is_live (slot_at g.table n.upto c))
               × (FailedBy g (record g { table = t; log = log; shelves = now }) (serving_at g.table n.upto c) ⊎ FailedBy g (record g { table = t; log = log; shelves = now }) n.to)
-              × Acts (Fault job n.upto c) [] g (record g { table = t; log = log; shelves = now }))
-              (lt, live, inr (w.cause refl), record { number = refl; first = refl; legal = (lt, column); table = et; log = el; flights = refl; blinds = refl }),
+              × LogsEntry (Fault job n.upto c) [] g (record g { table = t; log = log; shelves = now }))
+              (lt, live, inr (w.cause refl), record { number = refl; first = refl; legal = (lt, column); table = et; log = el; flights = refl; blinds = refl; tried = refl }),
         );
         keeps = w.keeps;
         steps = λ k. (
@@ -149,7 +149,7 @@ module _ (told : Type 0) (g : GroupView) (job c : ℕ) (m : Moving) (settled : I
             lost = (λ n q b e. e);
             acts = (λ n q b ln lq live h. sym (beside told g m.upto c m settled column moving refl (w.wrote k).0 n q lq) ∙ h);
             loses = (λ n q b e. ((w.wrote k).2 n).keeps q b e);
-            elsewhere = (λ n q b ne e. sym (unwritten (Writes g.table (Fault job m.upto c)) g.shelves.held m.to m.upto (w.wrote k).0 (target_named told g m.upto c m settled column moving refl, refl) n q ne) ∙ ((w.wrote k).2 n).keeps q b e);
+            elsewhere = (λ n q b ne e. sym (unwritten (EntryWrites g.table (Fault job m.upto c)) g.shelves.held m.to m.upto (w.wrote k).0 (target_named told g m.upto c m settled column moving refl, refl) n q ne) ∙ ((w.wrote k).2 n).keeps q b e);
           },
           w.heard k,
           on_move (λ n. n.upto ≡ m.upto) refl,
@@ -161,13 +161,13 @@ module _ (told : Type 0) (g : GroupView) (job c : ℕ) (m : Moving) (settled : I
 
 module _ {A : Type 0} (told : Type 0) (meaning : A → Meaning) (old : GroupParts A) (job c : ℕ) (m : Moving) (settled : IsSettled told (view_of meaning old)) (room : length old.log < log_bound)
     (column : c < width old.table) (moving : (column_at old.table c).moving ≡ Some m) where
-  acts : (b : Shelved A) (e : Entry) → Legal old.table e → Acts e [] (view_of meaning old) (view_of meaning (acted (with_archives old b) e []))
-  acts b e legal = record { number = refl; first = refl; legal = legal; table = refl; log = refl; flights = refl; blinds = refl }
+  acts : (b : Shelved A) (e : Entry) → Legal old.table e → LogsEntry e [] (view_of meaning old) (view_of meaning (acted (with_archives old b) e []))
+  acts b e legal = record { number = refl; first = refl; legal = legal; table = refl; log = refl; flights = refl; blinds = refl; tried = refl }
 
   -- all stripes were passed
-  pub ended_steps : (new : GroupParts A) → old.table.stripes ≤ m.upto → new ≡ acted old (MoveEnd job c) [] → Steps told job c (Ok moved.Ended) (view_of meaning old) (view_of meaning new)
-  ended_steps new le e = subst (λ (w : GroupParts A). Steps told job c (Ok moved.Ended) (view_of meaning old) (view_of meaning w)) (sym e) (record {
-    moves = on_move told (view_of meaning old) job c m settled room column moving (λ n. (n.upto ≡ old.table.stripes) × Acts (MoveEnd job c) [] (view_of meaning old) (view_of meaning (acted old (MoveEnd job c) [])))
+  pub ended_steps : (new : GroupParts A) → old.table.stripes ≤ m.upto → new ≡ acted old (MoveEnd job c) [] → StepsMove told job c (Ok moved.Ended) (view_of meaning old) (view_of meaning new)
+  ended_steps new le e = subst (λ (w : GroupParts A). StepsMove told job c (Ok moved.Ended) (view_of meaning old) (view_of meaning w)) (sym e) (record {
+    moves = on_move told (view_of meaning old) job c m settled room column moving (λ n. (n.upto ≡ old.table.stripes) × LogsEntry (MoveEnd job c) [] (view_of meaning old) (view_of meaning (acted old (MoveEnd job c) [])))
         (some_of (column_at old.table c).moving m (λ n. n.upto ≡ old.table.stripes) (legal.1) moving, acts old.shelves (MoveEnd job c) legal);
     keeps = keeps_refl (view_of meaning old).shelves;
     steps = λ t. (logged_in told (view_of meaning old) settled room (MoveEnd job c) [] legal (λ n k b ln lk l e. e), (λ n. refl));
@@ -179,9 +179,9 @@ module _ {A : Type 0} (told : Type 0) (meaning : A → Meaning) (old : GroupPart
 
   -- a slot that is not sound
   pub passed_steps : (new : GroupParts A) → m.upto < old.table.stripes → (told → Sound (stripe_of old.table (view_of meaning old).shelves.held m.upto) c → ⊥) → new ≡ acted old (Moved job m.upto c false) []
-      → Steps told job c (Ok moved.Passed) (view_of meaning old) (view_of meaning new)
-  passed_steps new lt missing e = subst (λ (w : GroupParts A). Steps told job c (Ok moved.Passed) (view_of meaning old) (view_of meaning w)) (sym e) (record {
-    moves = on_move told (view_of meaning old) job c m settled room column moving (λ n. (n.upto < old.table.stripes) × Acts (Moved job n.upto c false) [] (view_of meaning old) (view_of meaning (acted old (Moved job m.upto c false) [])))
+      → StepsMove told job c (Ok moved.Passed) (view_of meaning old) (view_of meaning new)
+  passed_steps new lt missing e = subst (λ (w : GroupParts A). StepsMove told job c (Ok moved.Passed) (view_of meaning old) (view_of meaning w)) (sym e) (record {
+    moves = on_move told (view_of meaning old) job c m settled room column moving (λ n. (n.upto < old.table.stripes) × LogsEntry (Moved job n.upto c false) [] (view_of meaning old) (view_of meaning (acted old (Moved job m.upto c false) [])))
         (lt, acts old.shelves (Moved job m.upto c false) legal);
     keeps = keeps_refl (view_of meaning old).shelves;
     steps = λ t. (m.upto, logged_in told (view_of meaning old) settled room (Moved job m.upto c false) [] legal (λ n k b ln lk l e. e), (λ n. refl), missing t);
@@ -194,13 +194,13 @@ module _ {A : Type 0} (told : Type 0) (meaning : A → Meaning) (old : GroupPart
   -- the read failed
   pub unread_steps : (b : Shelved A) (digest : Digest) (into : List ℕ) (new : GroupParts A) → m.upto < old.table.stripes → slot_at old.table m.upto c ≡ Live digest
       → ReadsByDigest told (serving_at old.table m.upto c) m.upto digest into found.NotRead (plain meaning old.shelves) (plain meaning b) → new ≡ noted (with_archives old b) (Fault job m.upto c)
-      → Steps told job c (Err (failed.Faulted c)) (view_of meaning old) (view_of meaning new)
-  unread_steps b digest into new lt live finds e = subst (λ (w : GroupParts A). Steps told job c (Err (failed.Faulted c)) (view_of meaning old) (view_of meaning w)) (sym e) (record {
+      → StepsMove told job c (Err (failed.Faulted c)) (view_of meaning old) (view_of meaning new)
+  unread_steps b digest into new lt live finds e = subst (λ (w : GroupParts A). StepsMove told job c (Err (failed.Faulted c)) (view_of meaning old) (view_of meaning w)) (sym e) (record {
     moves = (
       refl,
       on_move told (view_of meaning old) job c m settled room column moving (λ n. (n.upto < old.table.stripes) × IsTrue (is_live (slot_at old.table n.upto c))
           × (FailedBy (view_of meaning old) (view_of meaning (noted (with_archives old b) (Fault job m.upto c))) (serving_at old.table n.upto c) ⊎ FailedBy (view_of meaning old) (view_of meaning (noted (with_archives old b) (Fault job m.upto c))) n.to)
-          × Acts (Fault job n.upto c) [] (view_of meaning old) (view_of meaning (noted (with_archives old b) (Fault job m.upto c))))
+          × LogsEntry (Fault job n.upto c) [] (view_of meaning old) (view_of meaning (noted (with_archives old b) (Fault job m.upto c))))
           (lt, ap is_live live, inl finds.means, acts b (Fault job m.upto c) (lt, column)),
     );
     keeps = finds.stays.keeps;
@@ -226,9 +226,9 @@ module _ {A : Type 0} (told : Type 0) (meaning : A → Meaning) (old : GroupPart
   })
 
   -- A step after a read that did not fail.
-  module _ (b : Shelved A) (new : GroupParts A) (stays : Stays told (plain meaning old.shelves) (plain meaning b)) where
-    acts_back : (e : Entry) → Acts e [] (view_of meaning (with_archives old b)) (view_of meaning new) → Acts e [] (view_of meaning old) (view_of meaning new)
-    acts_back e a = record { number = a.number; first = a.first; legal = a.legal; table = a.table; log = a.log; flights = a.flights; blinds = a.blinds }
+  module _ (b : Shelved A) (new : GroupParts A) (stays : ShelvesStay told (plain meaning old.shelves) (plain meaning b)) where
+    acts_back : (e : Entry) → LogsEntry e [] (view_of meaning (with_archives old b)) (view_of meaning new) → LogsEntry e [] (view_of meaning old) (view_of meaning new)
+    acts_back e a = record { number = a.number; first = a.first; legal = a.legal; table = a.table; log = a.log; flights = a.flights; blinds = a.blinds; tried = a.tried }
 
     rose_back : (n : ℕ) → FailedBy (view_of meaning (with_archives old b)) (view_of meaning new) n → FailedBy (view_of meaning old) (view_of meaning new) n
     rose_back n (inl l) = inl (omega (arith, l, stays.keeps.later n))
@@ -290,7 +290,7 @@ module _ {A : Type 0} (told : Type 0) (meaning : A → Meaning) (old : GroupPart
     writes_back (Err failed.LogFull) t x = lost_back t x
     writes_back (Err failed.Idle) t x = lost_back t x
 
-    pub after_read : (r : Result MoveStep MoveFault) → Steps told job c r (view_of meaning (with_archives old b)) (view_of meaning new) → Steps told job c r (view_of meaning old) (view_of meaning new)
+    pub after_read : (r : Result MoveStep MoveFault) → StepsMove told job c r (view_of meaning (with_archives old b)) (view_of meaning new) → StepsMove told job c r (view_of meaning old) (view_of meaning new)
     after_read r s = record {
       moves = back r s.moves;
       keeps = keeps_then (plain meaning old.shelves) (plain meaning b) (view_of meaning new).shelves stays.keeps s.keeps;
@@ -301,9 +301,9 @@ module _ {A : Type 0} (told : Type 0) (meaning : A → Meaning) (old : GroupPart
   -- the slot has no block of its digest
   pub passed_read : (b : Shelved A) (digest : Digest) (into : List ℕ) (new : GroupParts A) → m.upto < old.table.stripes → slot_at old.table m.upto c ≡ Live digest
       → ReadsByDigest told (serving_at old.table m.upto c) m.upto digest into found.Missing (plain meaning old.shelves) (plain meaning b) → new ≡ acted (with_archives old b) (Moved job m.upto c false) []
-      → Steps told job c (Ok moved.Passed) (view_of meaning old) (view_of meaning new)
-  passed_read b digest into new lt live finds e = subst (λ (w : GroupParts A). Steps told job c (Ok moved.Passed) (view_of meaning old) (view_of meaning w)) (sym e) (record {
-    moves = on_move told (view_of meaning old) job c m settled room column moving (λ n. (n.upto < old.table.stripes) × Acts (Moved job n.upto c false) [] (view_of meaning old) (view_of meaning (acted (with_archives old b) (Moved job m.upto c false) [])))
+      → StepsMove told job c (Ok moved.Passed) (view_of meaning old) (view_of meaning new)
+  passed_read b digest into new lt live finds e = subst (λ (w : GroupParts A). StepsMove told job c (Ok moved.Passed) (view_of meaning old) (view_of meaning w)) (sym e) (record {
+    moves = on_move told (view_of meaning old) job c m settled room column moving (λ n. (n.upto < old.table.stripes) × LogsEntry (Moved job n.upto c false) [] (view_of meaning old) (view_of meaning (acted (with_archives old b) (Moved job m.upto c false) [])))
         (lt, acts b (Moved job m.upto c false) legal);
     keeps = finds.stays.keeps;
     steps = λ t. (

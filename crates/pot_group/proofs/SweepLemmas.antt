@@ -15,9 +15,9 @@ use Rattle.pot_shelves.specs.Shelves.{Keeps}
 use Rattle.pot_group.specs.Finding.{IsPlace}
 use Rattle.pot_group.specs.Group.{GroupView}
 use Rattle.pot_group.specs.Calls.{Grows, LookCall, Made}
-use Rattle.pot_group.specs.Sweeping.{EndsWith, IsAnswered, IsReached, Look, LooksOn, SweepCall, was_gone, was_seen}
+use Rattle.pot_group.specs.Sweeping.{EndsWith, IsLookAnswered, IsSweepReached, Look, LooksOn, SweepCall, was_gone, was_seen}
 use Rattle.pot_shelves.proofs.ShelfLemmas.{keeps_refl, keeps_then}
-use Rattle.pot_group.proofs.Rows.{grows_keeps}
+use Rattle.pot_group.proofs.Rows.{grows_keeps, no_tries}
 
 -- LOOK AFTER LOOK
 
@@ -59,11 +59,12 @@ pub record Kept (old new : GroupView) (entries : List Entry) : Type 0 where
   pub number : new.number ≡ old.number
   pub first : new.first ≡ old.first
   pub log : new.log ≡ old.log ++ entries
+  pub tried : new.tried ≡ old.tried
   pub keeps : Keeps old.shelves new.shelves
 
 kept_none : (old new : GroupView) → new ≡ old → Kept old new []
 kept_none old new same =
-    subst (λ (g : GroupView). Kept old g []) (sym same) (record { number = refl; first = refl; log = sym (append-nil old.log); keeps = keeps_refl old.shelves })
+    subst (λ (g : GroupView). Kept old g []) (sym same) (record { number = refl; first = refl; log = sym (append-nil old.log); tried = refl; keeps = keeps_refl old.shelves })
 
 pub looks_kept : (told : Type 0) (job s c : ℕ) (looks : List Look) (old new : GroupView) (entries : List Entry) → LooksOn told job s c looks old new entries → Kept old new entries
 looks_kept told job s c [] old new entries goes = subst (λ (es : List Entry). Kept old new es) (sym goes.0) (kept_none old new goes.1)
@@ -75,11 +76,12 @@ looks_kept told job s c ((p, answer) ∷ looks) old new entries goes =
       number = more.number ∙ call.logs.number;
       first = more.first ∙ call.logs.first;
       log = more.log ∙ ap (λ (es : List Entry). es ++ goes.3) call.logs.log ∙ append_assoc old.log goes.2 goes.3 ∙ ap (λ (es : List Entry). old.log ++ es) (sym goes.7);
+      tried = more.tried ∙ call.logs.tried;
       keeps = keeps_then old.shelves mid.shelves new.shelves call.stays.keeps more.keeps;
     }
 
 looks_grow : (told : Type 0) (job s c : ℕ) (looks : List Look) (old new : GroupView) (entries : List Entry) → LooksOn told job s c looks old new entries → Grows old new entries
-looks_grow told job s c looks old new entries goes = (let k = looks_kept told job s c looks old new entries goes in grows_keeps old new entries k.number k.first k.log k.keeps)
+looks_grow told job s c looks old new entries goes = (let k = looks_kept told job s c looks old new entries goes in grows_keeps old new entries k.number k.first k.log (no_tries old new k.tried) k.keeps)
 
 -- A SWEEP UNDER WAY
 
@@ -100,7 +102,7 @@ pub record Sweeps (told : Type 0) (job s c n at_stripe at_column : ℕ) (swept :
   pub at : ends s c looks ≡ (at_stripe, at_column)
   pub seen_is : swept.seen ≡ length (filter was_seen looks)
   pub gone_is : swept.gone ≡ length (filter was_gone looks)
-  pub answered : (x : Look) → Contains looks x → IsAnswered x
+  pub answered : (x : Look) → Contains looks x → IsLookAnswered x
   pub reaches : IsAt swept.reached looks
 
 pub sweeps_none : (told : Type 0) (job s c : ℕ) (g : GroupView) → Sweeps told job s c 0 s c (record { seen = 0; gone = 0; reached = reached.End }) g g []
@@ -122,8 +124,8 @@ counted test looks x n m e f =
 one_more : (looks : List Look) (x : Look) (n : ℕ) → length looks ≡ n → length (looks ++ x ∷ []) ≡ n + 1
 one_more looks x n e = length-append looks (x ∷ []) ∙ ap (λ k. k + 1) e
 
-all_answered : (looks : List Look) (y : Look) → ((x : Look) → Contains looks x → IsAnswered x) → IsAnswered y → (x : Look) → Contains (looks ++ y ∷ []) x → IsAnswered x
-all_answered looks y all last x h = elim (Contains-push_cases looks y x h) [ inl front ↦ all x front | inr same ↦ subst (λ z. IsAnswered z) same last ]
+all_answered : (looks : List Look) (y : Look) → ((x : Look) → Contains looks x → IsLookAnswered x) → IsLookAnswered y → (x : Look) → Contains (looks ++ y ∷ []) x → IsLookAnswered x
+all_answered looks y all last x h = elim (Contains-push_cases looks y x h) [ inl front ↦ all x front | inr same ↦ subst (λ z. IsLookAnswered z) same last ]
 
 module _ (told : Type 0) (job s c n at_stripe at_column : ℕ) (swept : Swept) (old mid new : GroupView) (entries : List Entry) (sweeps : Sweeps told job s c n at_stripe at_column swept old mid entries) where
   -- no more than the looks that were made
@@ -139,7 +141,7 @@ module _ (told : Type 0) (job s c n at_stripe at_column : ℕ) (swept : Swept) (
         (subst (λ (q : ℕ × ℕ). IsPlace mid.number mid.table is_live q.0 q.1 (Some p)) (sym sweeps.at) place) made.2
 
     -- one look more that was answered
-    pub sweeps_more : IsAnswered (p, answer) → (seen gone : ℕ) → seen ≡ swept.seen + length (filter was_seen ((p, answer) ∷ [])) → gone ≡ swept.gone + length (filter was_gone ((p, answer) ∷ []))
+    pub sweeps_more : IsLookAnswered (p, answer) → (seen gone : ℕ) → seen ≡ swept.seen + length (filter was_seen ((p, answer) ∷ [])) → gone ≡ swept.gone + length (filter was_gone ((p, answer) ∷ []))
         → Sweeps told job s c (n + 1) p.stripe (p.column + 1) (record { seen = seen; gone = gone; reached = reached.Slot p.stripe p.column }) old new (entries ++ made.0)
     sweeps_more last seen gone seen_is gone_is = record {
       looks = sweeps.looks ++ (p, answer) ∷ [];
@@ -154,7 +156,7 @@ module _ (told : Type 0) (job s c n at_stripe at_column : ℕ) (swept : Swept) (
 
     -- one look more, at which the sweep ends
     sweep_ends : n < 4 → (seen gone : ℕ) (far : Reached) → seen ≡ swept.seen + length (filter was_seen ((p, answer) ∷ [])) → gone ≡ swept.gone + length (filter was_gone ((p, answer) ∷ []))
-        → (EndsWith (sweeps.looks ++ (p, answer) ∷ []) answer → IsReached old s c far (sweeps.looks ++ (p, answer) ∷ []))
+        → (EndsWith (sweeps.looks ++ (p, answer) ∷ []) answer → IsSweepReached old s c far (sweeps.looks ++ (p, answer) ∷ []))
         → Made (SweepCall told job s c (record { seen = seen; gone = gone; reached = far })) old new
     sweep_ends few seen gone far seen_is gone_is reaches = (
       entries ++ made.0,
@@ -189,7 +191,7 @@ module _ (told : Type 0) (job s c n at_stripe at_column : ℕ) (swept : Swept) (
 -- THE END OF A SWEEP
 
 module _ (told : Type 0) (job s c n at_stripe at_column : ℕ) (swept : Swept) (old new : GroupView) (entries : List Entry) (sweeps : Sweeps told job s c n at_stripe at_column swept old new entries) where
-  swept_so : n ≤ 4 → IsReached old s c swept.reached sweeps.looks → Made (SweepCall told job s c swept) old new
+  swept_so : n ≤ 4 → IsSweepReached old s c swept.reached sweeps.looks → Made (SweepCall told job s c swept) old new
   swept_so few reaches = (
     entries,
     looks_grow told job s c sweeps.looks old new entries sweeps.goes,
@@ -204,14 +206,14 @@ module _ (told : Type 0) (job s c n at_stripe at_column : ℕ) (swept : Swept) (
   )
 
   -- what answered looks came to, where at least one was made
-  far_some : (far : Reached) (looks : List Look) → 0 < length looks → ((x : Look) → Contains looks x → IsAnswered x) → IsAt far looks → IsReached old s c far looks
+  far_some : (far : Reached) (looks : List Look) → 0 < length looks → ((x : Look) → Contains looks x → IsLookAnswered x) → IsAt far looks → IsSweepReached old s c far looks
   far_some reached.End looks some all h = absurd (let none : length looks ≡ 0 = ap length h in omega arith)
   far_some (reached.Slot stripe column) looks some all h = (h.0, h.1, h.2, h.3, all, h.4, h.5)
   far_some (reached.Faulted column) looks some all h = absurd h
   far_some reached.LogFull looks some all h = absurd h
 
   -- and where no Live slot is left
-  far_none : (far : Reached) (looks : List Look) → (looks ≡ [] → IsPlace old.number old.table is_live s c None) → ((x : Look) → Contains looks x → IsAnswered x) → IsAt far looks → IsReached old s c far looks
+  far_none : (far : Reached) (looks : List Look) → (looks ≡ [] → IsPlace old.number old.table is_live s c None) → ((x : Look) → Contains looks x → IsLookAnswered x) → IsAt far looks → IsSweepReached old s c far looks
   far_none reached.End looks none all h = (h, none h)
   far_none (reached.Slot stripe column) looks none all h = (h.0, h.1, h.2, h.3, all, h.4, h.5)
   far_none (reached.Faulted column) looks none all h = absurd h

@@ -29,14 +29,14 @@ use Rattle.pot_shelves.specs.Shelves.{Shelves, WritesAt, put_at, WriteLeaves}
 use Rattle.pot_group.specs.Arrivals.{arrival}
 use Rattle.pot_group.specs.Causes.{Covers, archives_of, faults_in}
 use Rattle.pot_group.specs.Group.{GroupView, IsSettled, FailedAt, CoversOne}
-use Rattle.pot_group.proofs.Framing.{Frames, frames_write}
-use Rattle.pot_group.specs.Frames.{FaultInto, MayFail, MayWrite}
+use Rattle.pot_group.proofs.Framing.{Frames, frames_write, placed_more, tried_front, tried_last}
+use Rattle.pot_group.specs.Frames.{FaultInto, MayFail, MayWrite, Tries}
 use Rattle.pot_group.specs.Putting.{HasOld, IsNotKept, IsPut, PutsAt, WritesAll, PutsAll, PutsNone, BlockMeans, made_entry, answered}
 use Rattle.pot_group.specs.declared.answers.PutFault.TheVariants as fault
 use Rattle.pot_shelves.proofs.ShelfLemmas.{put_at-other, left_new}
 use Rattle.pot_group.proofs.CauseLemmas.{covers-stays}
 use Rattle.pot_group.proofs.Reading.{covers_rise}
-use Rattle.pot_group.proofs.Settled.{settled_entry, one_fault, no_fault}
+use Rattle.pot_group.proofs.Settled.{settled_entry, settled_trying, one_fault, no_fault}
 
 le_self : (c : ℕ) → nat_le c c ≡ true
 le_self c = grind (arith, nat_tests)
@@ -44,6 +44,10 @@ le_self c = grind (arith, nat_tests)
 -- the group with this entry logged, and with what its archives are then
 abbrev pub entered_with : GroupView → Entry → Shelves → GroupView
 entered_with g e now = record g { table = after g.table e; log = g.log ++ e ∷ []; shelves = now }
+
+-- and with the block of a put kept
+abbrev pub tried_with : GroupView → Entry → List ℕ → Shelves → GroupView
+tried_with g e block now = record (entered_with g e now) { tried = g.tried ++ (length g.log, block) ∷ [] }
 
 module _ (told : Type 0) (g : GroupView) (job s c : ℕ) (block : List ℕ) (settled : IsSettled told g) (cursor : AtCursor g.table s)
     (column : c ≡ g.table.cursor.column) (takes : TakesBlocks g.table s) (room : length g.log < log_bound) where
@@ -71,11 +75,12 @@ module _ (told : Type 0) (g : GroupView) (job s c : ℕ) (block : List ℕ) (set
   fault_legal = (cursor.1, data_wide)
 
   module _ (now : Shelves) (e : Failed) (w : WritesAt told (serving_at g.table s c) s block (Err e) g.shelves now) where
-    rose : FailedAt g (entered_with g (Fault job s c) now) s c
+    rose : FailedAt g (tried_with g (Fault job s c) block now) s c
     rose = w.cause refl
 
-    pub none_settled : IsSettled told (entered_with g (Fault job s c) now)
-    none_settled = settled_entry told g (Fault job s c) now (λ t. put_at g.shelves.held (serving_at g.table s c) s (w.wrote t).0) settled
+    pub none_settled : IsSettled told (tried_with g (Fault job s c) block now)
+    none_settled = settled_trying told g (g.tried ++ (length g.log, block) ∷ []) (Fault job s c) now (λ t. put_at g.shelves.held (serving_at g.table s c) s (w.wrote t).0)
+        (tried_front g.tried ((length g.log, block) ∷ [])) (placed_more g.tried (length g.log) block settled.tried) settled
         (record { flights = (λ fs. refl); blinds = (λ bs. refl); data_columns = refl; parity = refl; stripes = refl; columns = refl; none_brought = (λ c. refl) })
         fault_legal room w.keeps (λ t. (w.wrote t).2)
         (λ t n k b ln lk live h. sym (untouched (w.wrote t).0 n k lk (live_void (slot_at g.table n k) live)) ∙ h)
@@ -84,14 +89,15 @@ module _ (told : Type 0) (g : GroupView) (job s c : ℕ) (block : List ℕ) (set
         (covers-stays g.shelves now (archives_of g.first g.log k) (faults_in g.first.data_columns k g.log) w.keeps.later w.keeps.faults_taken (settled.causes.faults k lk))
         (covers_rise told g now s c settled data_wide w.keeps rose))
         (λ t k lk m. absurd m)
-        (λ t. frames_write told g.table (Fault job s c) (serving_at g.table s c) s block (Err e) g.shelves now t w (refl, into, inl void) (w.wrote t).0 false (λ _. (refl, into)) (w.wrote t).1) w.heard (λ t. tt)
+        (λ t. frames_write told g.table (Fault job s c) (serving_at g.table s c) s block (Err e) g.shelves now t w (refl, into, inl (void, tried_last g.tried (length g.log) block settled.tried.below)) (w.wrote t).0 false (λ _. (refl, into)) (w.wrote t).1) w.heard (λ t. tt)
       where
         into : FaultInto g.table s c (serving_at g.table s c)
         into = inl (ap is_live void, refl)
 
-    pub none_put : PutsNone told job s c block g (entered_with g (Fault job s c) now)
+    pub none_put : PutsNone told job s c block g (tried_with g (Fault job s c) block now)
     none_put = record {
-      logs = record { number = refl; first = refl; log = refl; flights = refl; blinds = refl; replay = (fault_legal, refl) };
+      logs = record { number = refl; first = refl; log = refl; flights = refl; blinds = refl; tried = refl; replay = (fault_legal, refl) };
+      tried = refl;
       holds = w.wrote;
       keeps = w.keeps;
       heard = w.heard;
@@ -193,19 +199,19 @@ module _ (told : Type 0) (g : GroupView) (job s c : ℕ) (block : List ℕ) (set
     two_puts = Put2 job s c (digest_of block) (digest_of (xor p block)) (digest_of (xor q (scaled (power 3 c) block))) kept kept2
 
     -- what the entry may have written
-    frames_put : (e : Entry) → ((n : ℕ) (x : List ℕ) → IsPut g.table s c block new_p new_q n x → MayWrite g.table e n s x) → ((n : ℕ) → IsNotKept g.table s kept kept2 n → MayFail g.table e n s) → (t : told) → Frames g.table e g.shelves (ideal t) now
+    frames_put : (e : Entry) → ((n : ℕ) (x : List ℕ) → IsPut g.table s c block new_p new_q n x → MayWrite g.tried (length g.log) g.table e n s x) → ((n : ℕ) → IsNotKept g.table s kept kept2 n → MayFail g.table e n s) → (t : told) → Frames g.tried (length g.log) g.table e g.shelves (ideal t) now
     frames_put e may fails t = record {
-      held = λ n m x h. elim ((puts t).frame n m x h) [ inl y ↦ inl y | inr y ↦ inr (subst (λ m. MayWrite g.table e n m x) (sym y.0) (may n x y.1)) ];
+      held = λ n m x h. elim ((puts t).frame n m x h) [ inl y ↦ inl y | inr y ↦ inr (subst (λ m. MayWrite g.tried (length g.log) g.table e n m x) (sym y.0) (may n x y.1)) ];
       history = λ n x h. elim (w.remembers t n x h) [ inl y ↦ inl y | inr y ↦ inr (s, may n x y) ];
       full = λ n m x h. elim ((puts t).full n m x h) [ inl y ↦ inl y | inr y ↦ inr (subst (λ m. MayFail g.table e n m) (sym y.0) (fails n y.1)) ];
     }
 
-    may_one : g.table.parity ≡ 1 → (n : ℕ) (x : List ℕ) → IsPut g.table s c block new_p new_q n x → MayWrite g.table one_put n s x
+    may_one : g.table.parity ≡ 1 → (n : ℕ) (x : List ℕ) → IsPut g.table s c block new_p new_q n x → MayWrite g.tried (length g.log) g.table one_put n s x
     may_one one n x (inl y) = (refl, inl (y.0, ap digest_of y.1))
     may_one one n x (inr (inl y)) = (refl, inr (y.0, ap digest_of (y.1 ∙ is_p)))
     may_one one n x (inr (inr y)) = absurd (omega (arith, one, y.0))
 
-    may_two : (n : ℕ) (x : List ℕ) → IsPut g.table s c block new_p new_q n x → MayWrite g.table two_puts n s x
+    may_two : (n : ℕ) (x : List ℕ) → IsPut g.table s c block new_p new_q n x → MayWrite g.tried (length g.log) g.table two_puts n s x
     may_two n x (inl y) = (refl, inl (y.0, ap digest_of y.1))
     may_two n x (inr (inl y)) = (refl, inr (inl (y.0, ap digest_of (y.1 ∙ is_p))))
     may_two n x (inr (inr y)) = (refl, inr (inr (y.1, ap digest_of (y.2 ∙ is_q y.0))))
@@ -286,7 +292,7 @@ module _ (told : Type 0) (g : GroupView) (job s c : ℕ) (block : List ℕ) (set
     pub all_put : PutsAll told job s c block p q kept kept2 g (entered_with g (put_of g.table.parity) now)
     all_put = record {
       is_block = is_block;
-      logs = record { number = refl; first = refl; log = refl; flights = refl; blinds = refl; replay = (put_legal, refl) };
+      logs = record { number = refl; first = refl; log = refl; flights = refl; blinds = refl; tried = refl; replay = (put_legal, refl) };
       writes = by_old;
     }
 
@@ -318,11 +324,11 @@ abbrev pub logged : GroupView → Table → List Entry → Shelves → GroupView
 logged g u log now = record g { table = u; log = log; shelves = now }
 
 module _ (told : Type 0) (g : GroupView) (job : ℕ) (block p q : List ℕ) (x : Cursor) (now : Shelves) (u : Table) (log : List Entry) (settled : IsSettled told g) (can : CanPut told p q g) (is : x ≡ g.table.cursor) where
-  pub none_exit : (e : Failed) × WritesAt told (serving_at g.table g.table.cursor.stripe g.table.cursor.column) g.table.cursor.stripe block (Err e) g.shelves now
+  pub none_exit : (at : ℕ) (tried : Tries) → at ≡ length g.log → tried ≡ g.tried ++ (at, block) ∷ [] → (e : Failed) × WritesAt told (serving_at g.table g.table.cursor.stripe g.table.cursor.column) g.table.cursor.stripe block (Err e) g.shelves now
       → u ≡ g.table → log ≡ g.log ++ Fault job x.stripe x.column ∷ []
-      → IsSettled told (logged g u log now) × BlockMeans told job block p q (Err (fault.Faulted x.column)) g (logged g u log now)
-  none_exit w is_u is_log =
-      rw (is_u, is_log, is) (
+      → IsSettled told (record (logged g u log now) { tried = tried }) × BlockMeans told job block p q (Err (fault.Faulted x.column)) g (record (logged g u log now) { tried = tried })
+  none_exit at tried is_at is_tried w is_u is_log =
+      rw (is_u, is_log, is, is_tried, is_at) (
         none_settled told g job g.table.cursor.stripe g.table.cursor.column block settled can.0 refl can.1 can.2 now w.0 w.1,
         inl (none_put told g job g.table.cursor.stripe g.table.cursor.column block settled can.0 refl can.1 can.2 now w.0 w.1, refl),
       )

@@ -13,7 +13,16 @@ use Rattle.pot_group.specs.Group.{GroupParts, RoseInOpening, view_of, state_of}
 -- a group before its opening
 abbrev pub unopened : {A : Type 0} → ℕ → Table → Shelved A → GroupParts A
 unopened number t a =
-    record { number = number; first = t; table = t; log = []; flights = []; blinds = []; shelves = a }
+    record {
+      number = number;
+      first = t;
+      table = t;
+      log = [];
+      flights = [];
+      blinds = [];
+      tried = [];
+      shelves = a;
+    }
 
 -- A group begins with a table and archives, whose marks are taken then, and every stripe is opened,
 -- after which the counts are marked again. Where the archives tell what they hold, that is the
@@ -27,6 +36,7 @@ pub record Begins {A : Type 0} (told : Type 0) (meaning : A → Meaning) (number
   pub is_number : g.number ≡ number
   pub first : g.first ≡ t
   pub blinds : g.blinds ≡ []
+  pub tried : g.tried ≡ []
   pub read : Shelved A
   pub opens : Opens told t.stripes t g.table g.log (plain meaning taken) (plain meaning read)
   pub marked : g.shelves ≡ record read { opened = g.shelves.opened }

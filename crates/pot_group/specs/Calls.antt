@@ -37,17 +37,24 @@ use Rattle.pot_group.specs.declared.copying.MoveStep.TheVariants as moved
 use Rattle.pot_group.specs.declared.copying.MoveFault.{MoveFault}
 use Rattle.pot_group.specs.declared.copying.MoveFault.TheVariants as stopped
 use Rattle.pot_group.specs.declared.moving.ShelfRefused.{ShelfRefused}
-use Rattle.pot_group.specs.Counting.{IsCounted}
-use Rattle.pot_shelves.specs.Shelves.{Keeps, NoneLost, Stays}
-use Rattle.pot_group.specs.Group.{GroupParts, GroupView, OnGroup, Logs, FailedAt, FitsGone}
+use Rattle.pot_group.specs.Counting.{AreSlotsCounted}
+use Rattle.pot_shelves.specs.Shelves.{Keeps, NoneLost, ShelvesStay}
+use Rattle.pot_group.specs.Group.{GroupParts, GroupView, OnGroup, Logs, LogsOf, FailedAt, FitsGone}
 use Rattle.pot_group.specs.Group.{FitsParity, FitsPassed, LookCause, looked_as, put_as, state_of}
 use Rattle.pot_group.specs.Arrivals.{HasArrived}
-use Rattle.pot_group.specs.Relaying.{Acts, AdvanceWrites, AtEnd, Drives, MendWrites, Moves, OnWay}
+use Rattle.pot_group.specs.Frames.{Tries}
+use Rattle.pot_group.specs.Relaying.{LogsEntry, AdvanceWrites, AtEnd, Drives, MendWrites, Moves, OnWay}
 use Rattle.pot_group.specs.Relaying.{advance_as, begin_as, mend_as}
 use Rattle.pot_group.specs.Moving.{Comes, MovesOn, MoveWrites, OnMove, RefusesMove, RefusesSwap}
 use Rattle.pot_group.specs.Moving.{live_in, move_as}
 
 -- THE ROWS
+
+-- A group keeps the blocks of puts that it kept, and some more of entries that its log gained.
+abbrev pub GainsTries : GroupView → GroupView → Type 0
+GainsTries old new =
+    (more : Tries) × (new.tried ≡ old.tried ++ more)
+    × ((x : ℕ × List ℕ) → Contains more x → (length old.log ≤ x.0) × (x.0 < length new.log))
 
 -- The log of a group gained these entries. Its number, the table that it began with, the marks of
 -- the archives that it had, those of the opening too, and what these meant at their taking stay.
@@ -55,6 +62,7 @@ pub record Grows (old new : GroupView) (entries : List Entry) : Type 0 where
   pub number : new.number ≡ old.number
   pub first : new.first ≡ old.first
   pub log : new.log ≡ old.log ++ entries
+  pub tried : GainsTries old new
   pub faults_taken : (n : ℕ) → Contains old.shelves.numbers n
       → new.shelves.faults_taken n ≡ old.shelves.faults_taken n
   pub losses_taken : (n : ℕ) → Contains old.shelves.numbers n
@@ -71,9 +79,9 @@ abbrev pub Made : (GroupView → GroupView → List Entry → Type 0) → GroupV
 Made row old new = (entries : List Entry) × Grows old new entries × row old new entries
 
 -- the same of a group with its archives, whose account says whether they tell
-abbrev pub Makes : {A : Type 0} → Account A Meaning → (Type 0 → GroupView → GroupView → List Entry → Type 0)
+abbrev pub MakesCall : {A : Type 0} → Account A Meaning → (Type 0 → GroupView → GroupView → List Entry → Type 0)
     → GroupParts A → GroupParts A → Type 0
-Makes account row old new = OnGroup account (λ told. Made (row told)) old new
+MakesCall account row old new = OnGroup account (λ told. Made (row told)) old new
 
 -- A PUT
 
@@ -122,9 +130,21 @@ PutTells job block (Err (fault.Faulted column)) old new entries =
     ⊎ PutUnkept job passed s column block old entries)
     × FailedAt old new s column × FitsPassed old.table passed
 
+-- Which block of a put is kept, since no entry names its digest: its own, with the number of
+-- entries before its Fault, where the write of the block itself failed, and none else.
+abbrev pub PutTries : ℕ → List ℕ → Result Place PutFault → GroupView → GroupView → List Entry
+    → Type 0
+PutTries job block (Err (fault.Faulted column)) old new entries =
+    ((column ≡ new.table.cursor.column)
+    × ((before : List Entry) × (s : ℕ) × (entries ≡ before ++ entry.Fault job s column ∷ [])
+    × (new.tried ≡ old.tried ++ (length (old.log ++ before), block) ∷ [])))
+    ⊎ ((old.table.data_columns ≤ column) × (new.tried ≡ old.tried))
+PutTries job block _ old new entries = new.tried ≡ old.tried
+
 pub record PutCall (told : Type 0) (job : ℕ) (block : List ℕ) (result : Result Place PutFault)
     (old new : GroupView) (entries : List Entry) : Type 0 where
-  pub logs : Logs entries old new
+  pub logs : LogsOf entries old new
+  pub tries : PutTries job block result old new entries
   pub tells : PutTells job block result old new entries
   pub full : length old.log ≡ log_bound → (result ≡ Err fault.LogFull) × (new ≡ old)
   pub keeps : Keeps old.shelves new.shelves
@@ -138,7 +158,7 @@ pub record LookCall (told : Type 0) (job : ℕ) (place : Place) (into : List ℕ
   pub entries_are : entries ≡ look_entries job place.stripe place.column (looked_as result into)
   pub full : (result ≡ looked.LogFull) ↔ (length old.log ≡ log_bound)
   pub cause : LookCause result old new place.stripe place.column into
-  pub stays : Stays told old.shelves new.shelves
+  pub stays : ShelvesStay told old.shelves new.shelves
   pub step : told
       → LookStep job place.stripe place.column (looked_as result into) (state_of old) (state_of new)
 
@@ -147,7 +167,7 @@ pub record LookCall (told : Type 0) (job : ℕ) (place : Place) (into : List ℕ
 abbrev pub CountCall : Type 0 → ℕ → Result Counts LogFull → GroupView → GroupView → List Entry
     → Type 0
 CountCall told job (Ok counts) old new entries =
-    (entries ≡ entry.Counted job ∷ []) × IsCounted old.table counts × (new.shelves ≡ old.shelves)
+    (entries ≡ entry.Counted job ∷ []) × AreSlotsCounted old.table counts × (new.shelves ≡ old.shelves)
     × (told → CountStep job (state_of old) (state_of new)) × Logs entries old new
     × (length old.log < log_bound)
 CountCall told job (Err e) old new entries =
@@ -161,7 +181,7 @@ abbrev pub BeginTells : ℕ → ℕ → ℕ → List ℕ → Result (Unit {0}) B
     → List Entry → Type 0
 BeginTells job s c blind (Ok u) old new entries =
     (entries ≡ entry.Begin job s c ∷ []) × (length old.log < log_bound)
-    × Acts (entry.Begin job s c) blind old new × (new.shelves ≡ old.shelves)
+    × LogsEntry (entry.Begin job s c) blind old new × (new.shelves ≡ old.shelves)
 BeginTells job s c blind (Err refused.LogFull) old new entries =
     (entries ≡ []) × (new ≡ old) × (length old.log ≡ log_bound)
 BeginTells job s c blind (Err refused.Whole) old new entries =
@@ -173,7 +193,7 @@ BeginTells job s c blind (Err (refused.Standing column)) old new entries =
     × IsSomeAnd (relay_at old.table s) (λ r. r.target ≡ column)
 BeginTells job s c blind (Err (refused.TwoGone first second)) old new entries =
     (entries ≡ entry.Stuck job s c second ∷ []) × (length old.log < log_bound) × (first ≡ c)
-    × Acts (entry.Stuck job s c second) [] old new
+    × LogsEntry (entry.Stuck job s c second) [] old new
     × (new.shelves ≡ old.shelves)
 BeginTells job s c blind (Err refused.Crowded) old new entries =
     (entries ≡ []) × (new ≡ old) × (length old.log < log_bound)

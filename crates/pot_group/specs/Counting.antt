@@ -14,8 +14,8 @@ pub record CountsSlots (slots : List SlotState) (cursor : Cursor) (counts : Coun
   pub stripe : counts.stripe ≡ cursor.stripe
   pub column : counts.column ≡ cursor.column
 
-abbrev pub IsCounted : Table → Counts → Type 0
-IsCounted t counts = CountsSlots t.slots t.cursor counts
+abbrev pub AreSlotsCounted : Table → Counts → Type 0
+AreSlotsCounted t counts = CountsSlots t.slots t.cursor counts
 
 -- the same of the first `n` slots
 abbrev pub CountsFirst : ℕ → Table → Counts → Type 0

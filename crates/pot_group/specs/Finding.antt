@@ -23,12 +23,12 @@ IsFrom t s c n k = InRange t n k × ((s < n) ⊎ ((s ≡ n) × (c ≤ k)))
 
 -- Some: a place at or after the first one whose slot passes, where no place between passes. None:
 -- no place at or after passes
-abbrev pub IsNext : Table → (SlotState → Bool) → ℕ → ℕ → Option (ℕ × ℕ) → Type 0
-IsNext t test s c (Some p) =
+abbrev pub IsNextPlace : Table → (SlotState → Bool) → ℕ → ℕ → Option (ℕ × ℕ) → Type 0
+IsNextPlace t test s c (Some p) =
     IsFrom t s c p.0 p.1
     × IsTrue (test (slot_at t p.0 p.1))
     × ((n k : ℕ) → IsFrom t s c n k → Before n k p.0 p.1 → test (slot_at t n k) ≡ false)
-IsNext t test s c None = (n k : ℕ) → IsFrom t s c n k → test (slot_at t n k) ≡ false
+IsNextPlace t test s c None = (n k : ℕ) → IsFrom t s c n k → test (slot_at t n k) ≡ false
 
 -- the same in one stripe
 abbrev pub IsNextColumn : Table → (SlotState → Bool) → ℕ → ℕ → Option ℕ → Type 0
@@ -40,5 +40,5 @@ IsNextColumn t test s c None = (k : ℕ) → c ≤ k → k < width t → test (s
 -- and in a group of this number
 abbrev pub IsPlace : ℕ → Table → (SlotState → Bool) → ℕ → ℕ → Option Place → Type 0
 IsPlace number t test s c (Some p) =
-    (p.group ≡ number) × IsNext t test s c (Some (p.stripe, p.column))
-IsPlace number t test s c None = IsNext t test s c None
+    (p.group ≡ number) × IsNextPlace t test s c (Some (p.stripe, p.column))
+IsPlace number t test s c None = IsNextPlace t test s c None

@@ -31,11 +31,12 @@ use Rattle.pot_group.specs.declared.answers.PutFault.TheVariants as fault
 use Rattle.pot_shelves.specs.Shelves.{Shelves, Shelved, plain}
 use Rattle.pot_group.specs.declared.reads.Found.{Found}
 use Rattle.pot_group.specs.Causes.{CauseLaw, Covers, archives_of, faults_in}
-use Rattle.pot_group.specs.Frames.{IsFramed}
+use Rattle.pot_group.specs.Frames.{ArePlaced, IsFramed, Tries}
 use Rattle.pot_group.specs.Heard.{HasHeard, begins}
 
 -- A group, whatever its archives are seen as: its number, the table that it began with, its table
--- and its log now, a flight for each relay, and the blind of each relay that its log begins.
+-- and its log now, a flight for each relay, the blind of each relay that its log begins, and the
+-- block of each put of which its log says only that its write failed.
 pub record GroupOf (Seen : Type 0) : Type 0 where
   pub number : ℕ
   pub first : Table
@@ -43,6 +44,7 @@ pub record GroupOf (Seen : Type 0) : Type 0 where
   pub log : List Entry
   pub flights : List Flight
   pub blinds : List (List ℕ)
+  pub tried : Tries
   pub shelves : Seen
 
 -- with its archives
@@ -62,6 +64,7 @@ view_of meaning g =
       log = g.log;
       flights = g.flights;
       blinds = g.blinds;
+      tried = g.tried;
       shelves = plain meaning g.shelves;
     }
 
@@ -129,8 +132,9 @@ pub record IsSettled (told : Type 0) (g : GroupView) : Type 0 where
   pub flying : told → FlightsHold g.table g.shelves.held g.flights
   pub live : told → LiveLaw g.table g.shelves.held (LostSince g.shelves)
   pub causes : CauseLaw told g.first g.log g.shelves
-  pub frame : told → IsFramed g.first g.log g.shelves
+  pub frame : told → IsFramed g.first g.log g.tried g.shelves
   pub blinds : length g.blinds ≡ begins g.log
+  pub tried : ArePlaced g.tried (length g.log)
   pub heard : told → HasHeard g.first g.log g.blinds g.flights g.shelves
 
 -- the log grows by these entries, and the table is their replay
@@ -140,7 +144,12 @@ pub record Logs (entries : List Entry) (old new : GroupView) : Type 0 where
   pub log : new.log ≡ old.log ++ entries
   pub flights : new.flights ≡ old.flights
   pub blinds : new.blinds ≡ old.blinds
+  pub tried : new.tried ≡ old.tried
   pub replay : Replays old.table entries new.table
+
+-- the same, whatever blocks of puts came to those whose write failed
+abbrev pub LogsOf : List Entry → GroupView → GroupView → Type 0
+LogsOf entries old new = Logs entries old (record new { tried = old.tried })
 
 -- one more fault of the column may be named
 abbrev pub CoversOne : GroupView → ℕ → Type 0

@@ -9,7 +9,7 @@ use Rattle.pot_steps.specs.declared.flight.Flight.{Flight}
 use Rattle.pot_steps.specs.Flight.{unfolded, weight_in}
 use Rattle.pot_steps.specs.Flights.{flight_in, flights_after}
 use Rattle.pot_shelves.specs.Shelves.{Shelves}
-use Rattle.pot_group.specs.Frames.{FitsIn}
+use Rattle.pot_group.specs.Frames.{HasDigestOf}
 
 -- a sum with its slot
 abbrev pub Sum : Type 0
@@ -17,11 +17,11 @@ Sum = ℕ × List ℕ
 
 -- The block that is given with an entry: at a Begin the blind, and at a Hop the sum that the fold
 -- left, to which a block of the digest of its slot was added.
-abbrev pub Gives : Table → List Flight → Entry → List ℕ → Type 0
-Gives t flights (entry.Hop job s c) given =
+abbrev pub GivesBlock : Table → List Flight → Entry → List ℕ → Type 0
+GivesBlock t flights (entry.Hop job s c) given =
     IsSomeAnd (flight_in flights s)
-    (λ f. FitsIn (slot_at t s c) (unfolded (weight_in t.data_columns f.relay c) f.sum given))
-Gives t flights _ given = Unit {0}
+    (λ f. HasDigestOf (slot_at t s c) (unfolded (weight_in t.data_columns f.relay c) f.sum given))
+GivesBlock t flights _ given = Unit {0}
 
 -- how many relays a log begins
 abbrev pub begins : List Entry → ℕ
@@ -46,7 +46,7 @@ abbrev pub FlyBy : Table → List Flight → List Entry → List (List ℕ) → 
 FlyBy t flights [] givens now = (givens ≡ []) × (now ≡ flights)
 FlyBy t flights (e ∷ log) [] now = ⊥
 FlyBy t flights (e ∷ log) (given ∷ givens) now =
-    Gives t flights e given
+    GivesBlock t flights e given
     × FlyBy (after t e) (flights_after t e given flights) log givens now
 
 -- a flight stands over the slot, which comes next to the column that this archive serves, and this

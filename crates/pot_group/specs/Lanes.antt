@@ -50,15 +50,15 @@ pub record Gathers (told : Type 0) (number : ℕ) (t : Table) (s c most : ℕ) (
   pub none : lanes ≡ [] → IsPlace number t is_live s c None
 
 -- what a read came to, where its block has this digest
-abbrev pub Finds : Lane → Digest → Found → Type 0
-Finds lane digest Sound = (lane.answer ≡ Ok Held) × (digest_in lane.state ≡ Some digest)
-Finds lane digest Missing =
+abbrev pub FindsInLane : Lane → Digest → Found → Type 0
+FindsInLane lane digest Sound = (lane.answer ≡ Ok Held) × (digest_in lane.state ≡ Some digest)
+FindsInLane lane digest Missing =
     (lane.answer ≡ Ok Absent) ⊎ ((lane.answer ≡ Ok Held) × (digest_in lane.state ≢ Some digest))
-Finds lane digest NotRead = IsErr lane.answer
+FindsInLane lane digest NotRead = IsErr lane.answer
 
 -- the first digests are those of the first blocks
-abbrev pub AreDigests : ℕ → List Lane → List Digest → Type 0
-AreDigests n lanes digests =
+abbrev pub AreLaneDigests : ℕ → List Lane → List Digest → Type 0
+AreLaneDigests n lanes digests =
     (k : ℕ) (x : Lane) (d : Digest) → k < n → slice_index_or digests k d
     ≡ digest_of (slice_index_or lanes k x).block
 

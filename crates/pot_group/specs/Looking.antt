@@ -8,7 +8,7 @@ use Rattle.pot_steps.specs.Stripe.{Sound}
 use Rattle.pot_steps.specs.Holdings.{stripe_of}
 use Rattle.pot_group.specs.declared.reads.Found.{Found}
 use Rattle.pot_group.specs.declared.reads.Found.TheVariants as found
-use Rattle.pot_shelves.specs.Shelves.{Stays}
+use Rattle.pot_shelves.specs.Shelves.{ShelvesStay}
 use Rattle.pot_group.specs.Group.{GroupView, FailedAt, CoversOne}
 
 -- Sound: the slot is Live, and this is its block. Missing: it is not Live, or its archive has no
@@ -24,5 +24,5 @@ LookFinds told s c into found.NotRead old new =
 
 pub record Looks (told : Type 0) (s c : ℕ) (into : List ℕ) (result : Found)
     (old new : GroupView) : Type 0 where
-  pub stays : Stays told old.shelves new.shelves
+  pub stays : ShelvesStay told old.shelves new.shelves
   pub finds : LookFinds told s c into result old new

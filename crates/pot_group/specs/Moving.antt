@@ -22,7 +22,7 @@ use Rattle.pot_group.specs.declared.moving.ShelfCause.{ShelfCause}
 use Rattle.pot_group.specs.declared.moving.ShelfCause.TheVariants as cause
 use Rattle.pot_shelves.specs.Shelves.{Brings, Keeps, LosesByCount, WritesInto}
 use Rattle.pot_group.specs.Group.{GroupView, state_of}
-use Rattle.pot_group.specs.Relaying.{Acts}
+use Rattle.pot_group.specs.Relaying.{LogsEntry}
 
 -- AN ARCHIVE COMES
 
@@ -55,7 +55,7 @@ pub record Comes {A : Type 0} (told : Type 0) (meaning : A → Meaning) (e : Ent
     (old new : GroupView) : Type 0 where
   pub room : length old.log < log_bound
   pub fresh : Contains old.shelves.numbers shelf.number → ⊥
-  pub acts : Acts e [] old new
+  pub acts : LogsEntry e [] old new
   pub brings : Brings told shelf.number (meaning shelf.archive) old.shelves new.shelves
   pub steps : told
       → step.BringStep e shelf.number (meaning shelf.archive).held (meaning shelf.archive).heard
@@ -90,18 +90,18 @@ MovesOn job c (Ok moved.Copied) old new =
     OnMove old c
     (λ m.
     (m.upto < old.table.stripes) × IsTrue (is_live (slot_at old.table m.upto c))
-    × Acts (entry.Moved job m.upto c true) [] old new)
+    × LogsEntry (entry.Moved job m.upto c true) [] old new)
 MovesOn job c (Ok moved.Passed) old new =
     OnMove old c
-    (λ m. (m.upto < old.table.stripes) × Acts (entry.Moved job m.upto c false) [] old new)
+    (λ m. (m.upto < old.table.stripes) × LogsEntry (entry.Moved job m.upto c false) [] old new)
 MovesOn job c (Ok moved.Ended) old new =
-    OnMove old c (λ m. (m.upto ≡ old.table.stripes) × Acts (entry.MoveEnd job c) [] old new)
+    OnMove old c (λ m. (m.upto ≡ old.table.stripes) × LogsEntry (entry.MoveEnd job c) [] old new)
 MovesOn job c (Err (failed.Faulted column)) old new =
     (column ≡ c)
     × OnMove old c
     (λ m. (m.upto < old.table.stripes) × IsTrue (is_live (slot_at old.table m.upto c))
     × (FailedBy old new (serving_at old.table m.upto c) ⊎ FailedBy old new m.to)
-    × Acts (entry.Fault job m.upto c) [] old new)
+    × LogsEntry (entry.Fault job m.upto c) [] old new)
 MovesOn job c (Err failed.LogFull) old new = ⊥
 MovesOn job c (Err failed.Idle) old new = ⊥
 
@@ -125,7 +125,7 @@ MoveWrites c answer old new = LosesByCount old.shelves.held old.shelves new.shel
 
 -- A step of a column that moves: what it does, that the archives stay with their marks, and, where
 -- they tell, the step of a group and what was written.
-pub record Steps (told : Type 0) (job c : ℕ) (result : Result MoveStep MoveFault)
+pub record StepsMove (told : Type 0) (job c : ℕ) (result : Result MoveStep MoveFault)
     (old new : GroupView) : Type 0 where
   pub moves : MovesOn job c result old new
   pub keeps : Keeps old.shelves new.shelves

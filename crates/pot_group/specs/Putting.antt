@@ -21,7 +21,7 @@ use Rattle.pot_bytes.specs.Digests.{digest_of}
 use Rattle.pot_steps.specs.Stripe.{Sound, IsOld}
 use Rattle.pot_steps.specs.Holdings.{Holdings, stripe_of}
 use Rattle.pot_steps.specs.Entries.{held_at}
-use Rattle.pot_steps.specs.GroupStep.{Passed, IsMissing, skips, gone_entries, put_entry, unkept}
+use Rattle.pot_steps.specs.GroupStep.{Passed, IsParityMissing, skips, gone_entries, put_entry, unkept}
 use Rattle.pot_group.specs.declared.reads.Found.{Found}
 use Rattle.pot_group.specs.declared.reads.Found.TheVariants as found
 use Rattle.pot_group.specs.declared.parities.Kept.{Kept}
@@ -31,9 +31,10 @@ use Rattle.pot_group.specs.declared.answers.PutFault.{PutFault}
 use Rattle.pot_group.specs.declared.answers.PutFault.TheVariants as fault
 use Rattle.pot_group.specs.declared.putting.Stop.{Stop}
 use Rattle.pot_group.specs.declared.putting.Stop.TheVariants as stop
-use Rattle.pot_shelves.specs.Shelves.{Shelves, Stays, Keeps, LosesByCount, WritesAt, put_at}
+use Rattle.pot_shelves.specs.Shelves.{Shelves, ShelvesStay, Keeps, LosesByCount, WritesAt, put_at}
 use Rattle.pot_shelves.specs.Shelves.{WriteLeaves}
-use Rattle.pot_group.specs.Group.{GroupView, Logs, FailedAt, CoversOne, FitsSlot, FitsParity}
+use Rattle.pot_group.specs.Group.{GroupView, Logs, LogsOf, FailedAt, CoversOne, FitsSlot}
+use Rattle.pot_group.specs.Group.{FitsParity}
 use Rattle.pot_group.specs.Group.{FitsPassed, state_of}
 
 -- THE OLD PARITY BLOCKS
@@ -56,7 +57,7 @@ LeavesOthers told s c old new =
 
 pub record ReadsOld (told : Type 0) (s c : ℕ) (block : List ℕ) (result : Found)
     (old new : GroupView) : Type 0 where
-  pub stays : Stays told old.shelves new.shelves
+  pub stays : ShelvesStay told old.shelves new.shelves
   pub finds : OldFinds told s c block result old new
   pub others : LeavesOthers told s c old new
 
@@ -73,7 +74,7 @@ SecondFinds told s q (checked.NotRead column) old new =
 
 pub record ReadsSecond (told : Type 0) (s : ℕ) (q : List ℕ) (result : Checked)
     (old new : GroupView) : Type 0 where
-  pub stays : Stays told old.shelves new.shelves
+  pub stays : ShelvesStay told old.shelves new.shelves
   pub finds : SecondFinds told s q result old new
   pub first : told
       → held_at old.table new.shelves.held s old.table.data_columns
@@ -103,7 +104,7 @@ ParityFinds told s p q (checked.NotRead column) old new =
 
 pub record ReadsParity (told : Type 0) (s : ℕ) (p q : List ℕ) (result : Checked)
     (old new : GroupView) : Type 0 where
-  pub stays : Stays told old.shelves new.shelves
+  pub stays : ShelvesStay told old.shelves new.shelves
   pub finds : ParityFinds told s p q result old new
 
 -- THE STRIPES THAT A PUT PASSES
@@ -149,7 +150,7 @@ PassMeans told job p q (Some s) old new = StopMeans told job p q s old new
 
 pub record Passes (told : Type 0) (job : ℕ) (p q : List ℕ) (result : Option Stop)
     (old new : GroupView) : Type 0 where
-  pub stays : Stays told old.shelves new.shelves
+  pub stays : ShelvesStay told old.shelves new.shelves
   pub means : PassMeans told job p q result old new
 
 -- The stripes that were passed so far. The slots ahead, and the archives that serve them, are as
@@ -157,9 +158,9 @@ pub record Passes (told : Type 0) (job : ℕ) (p q : List ℕ) (result : Option 
 pub record PassesAll (told : Type 0) (job : ℕ) (passed : List Passed)
     (old now : GroupView) : Type 0 where
   pub logs : Logs (skips job passed) old now
-  pub stays : Stays told old.shelves now.shelves
+  pub stays : ShelvesStay told old.shelves now.shelves
   pub missing : told
-      → All (λ x. IfSome x.gone (λ c. IsMissing (state_of old) now.shelves.held x.stripe c)) passed
+      → All (λ x. IfSome x.gone (λ c. IsParityMissing (state_of old) now.shelves.held x.stripe c)) passed
   pub gones : FitsPassed old.table passed
   pub ahead : (n k : ℕ) → now.table.cursor.stripe ≤ n → k < width old.table
       → slot_at now.table n k ≡ slot_at old.table n k
@@ -175,7 +176,7 @@ pub record FindsStripe (told : Type 0) (job : ℕ) (p q : List ℕ) (s : Stop)
   pub passed : List Passed
   pub now : GroupView
   pub passes : PassesAll told job passed old now
-  pub stays : Stays told now.shelves new.shelves
+  pub stays : ShelvesStay told now.shelves new.shelves
   pub means : StopMeans told job p q s now new
 
 -- THE WRITES
@@ -265,7 +266,8 @@ pub record PutsAll (told : Type 0) (job s c : ℕ) (block p q : List ℕ) (kept 
 -- the data block was not written
 pub record PutsNone (told : Type 0) (job s c : ℕ) (block : List ℕ)
     (old new : GroupView) : Type 0 where
-  pub logs : Logs (entry.Fault job s c ∷ []) old new
+  pub logs : LogsOf (entry.Fault job s c ∷ []) old new
+  pub tried : new.tried ≡ old.tried ++ (length old.log, block) ∷ []
   pub holds : told
       → (left : Option (List ℕ))
       × MayLeave (old.shelves.held (serving_at old.table s c) s) block left

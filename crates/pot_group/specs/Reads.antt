@@ -5,7 +5,7 @@ use Rattle.pot_outside.specs.Counts.{Rose}
 use Rattle.pot_bytes.specs.Digests.{digest_of}
 use Rattle.pot_group.specs.declared.reads.Found.{Found}
 use Rattle.pot_group.specs.declared.reads.Found.TheVariants.{Sound, Missing, NotRead}
-use Rattle.pot_shelves.specs.Shelves.{Shelves, Stays}
+use Rattle.pot_shelves.specs.Shelves.{Shelves, ShelvesStay}
 
 -- what a read that wants a block of this digest came to
 abbrev pub FoundMeans : Type 0 → ℕ → ℕ → Digest → List ℕ → Found → Shelves → Shelves → Type 0
@@ -19,6 +19,6 @@ FoundMeans told number slot digest into NotRead old new =
 -- An archive was read. The others hold what they held.
 pub record ReadsByDigest (told : Type 0) (number slot : ℕ) (digest : Digest) (into : List ℕ)
     (found : Found) (old new : Shelves) : Type 0 where
-  pub stays : Stays told old new
+  pub stays : ShelvesStay told old new
   pub means : FoundMeans told number slot digest into found old new
   pub others : told → (n m : ℕ) → n ≢ number → new.held n m ≡ old.held n m

@@ -92,7 +92,7 @@ HopsOver job sum advanced.Ended f old new =
 HopsOver job sum advanced.Mended f old new = ⊥
 
 -- The log grows by one entry, and the table and the flights by what it says.
-pub record Acts (e : Entry) (given : List ℕ) (old new : GroupView) : Type 0 where
+pub record LogsEntry (e : Entry) (given : List ℕ) (old new : GroupView) : Type 0 where
   pub number : new.number ≡ old.number
   pub first : new.first ≡ old.first
   pub legal : Legal old.table e
@@ -100,6 +100,7 @@ pub record Acts (e : Entry) (given : List ℕ) (old new : GroupView) : Type 0 wh
   pub log : new.log ≡ old.log ++ e ∷ []
   pub flights : new.flights ≡ flights_after old.table e given old.flights
   pub blinds : new.blinds ≡ blinds_after e given old.blinds
+  pub tried : new.tried ≡ old.tried
 
 -- the answer of an advance as the steps of a group name it
 abbrev pub advance_as : Result Advanced AdvanceFault → step.AdvanceAnswer
@@ -112,22 +113,22 @@ advance_as (Err (failed.Faulted column)) = step.Faulted column
 advance_as (Err (failed.Odd wanted found)) = step.Odd wanted found
 
 -- A relay that went over all its columns, and had a block of the target's digest.
-abbrev pub EndsWell : Type 0 → ℕ → List ℕ → Flight → Result Advanced AdvanceFault → GroupView
+abbrev pub EndsRelay : Type 0 → ℕ → List ℕ → Flight → Result Advanced AdvanceFault → GroupView
     → GroupView → Type 0
-EndsWell told job block f (Ok advanced.Mended) old new =
-    Acts (entry.Mended job f.relay.stripe f.relay.target) [] old new
+EndsRelay told job block f (Ok advanced.Mended) old new =
+    LogsEntry (entry.Mended job f.relay.stripe f.relay.target) [] old new
     × WritesAt told (serving_at old.table f.relay.stripe f.relay.target) f.relay.stripe block
     (Ok (tt)) old.shelves new.shelves
-EndsWell told job block f (Ok advanced.Hopped) old new = ⊥
-EndsWell told job block f (Ok advanced.Ended) old new = ⊥
-EndsWell told job block f (Err (failed.Faulted column)) old new =
-    (column ≡ f.relay.target) × Acts (entry.Fault job f.relay.stripe column) [] old new
+EndsRelay told job block f (Ok advanced.Hopped) old new = ⊥
+EndsRelay told job block f (Ok advanced.Ended) old new = ⊥
+EndsRelay told job block f (Err (failed.Faulted column)) old new =
+    (column ≡ f.relay.target) × LogsEntry (entry.Fault job f.relay.stripe column) [] old new
     × ((e : Failed)
     × WritesAt told (serving_at old.table f.relay.stripe f.relay.target) f.relay.stripe block
     (Err e) old.shelves new.shelves)
-EndsWell told job block f (Err failed.LogFull) old new = ⊥
-EndsWell told job block f (Err failed.Idle) old new = ⊥
-EndsWell told job block f (Err (failed.Odd wanted found)) old new = ⊥
+EndsRelay told job block f (Err failed.LogFull) old new = ⊥
+EndsRelay told job block f (Err failed.Idle) old new = ⊥
+EndsRelay told job block f (Err (failed.Odd wanted found)) old new = ⊥
 
 -- AN ADVANCE, whether or not archives tell
 
@@ -147,22 +148,22 @@ Moves job s (Ok advanced.Hopped) old new =
     OnWay old s (λ f c. (sum : List ℕ) × IsTrue (is_live (slot_at old.table s c))
     × (digest_in (slot_at old.table s c)
     ≡ Some (digest_of (unfolded (weight_in old.table.data_columns f.relay c) f.sum sum)))
-    × Acts (entry.Hop job s c) sum old new)
+    × LogsEntry (entry.Hop job s c) sum old new)
 Moves job s (Ok advanced.Ended) old new =
-    OnWay old s (λ f c. Acts (entry.GaveUp job s f.relay.target c) [] old new)
+    OnWay old s (λ f c. LogsEntry (entry.GaveUp job s f.relay.target c) [] old new)
 Moves job s (Ok advanced.Mended) old new =
     AtEnd old s
     (λ f.
     (digest_in (slot_at old.table s f.relay.target) ≡ Some (digest_of (partial_of f)))
-    × Acts (entry.Mended job s f.relay.target) [] old new)
+    × LogsEntry (entry.Mended job s f.relay.target) [] old new)
 Moves job s (Err (failed.Odd wanted found)) old new =
     AtEnd old s
     (λ f.
     (digest_in (slot_at old.table s f.relay.target) ≡ Some wanted)
     × (found ≡ digest_of (partial_of f)) × (wanted ≢ found)
-    × Acts (entry.Oddly job s f.relay.target found) [] old new)
+    × LogsEntry (entry.Oddly job s f.relay.target found) [] old new)
 Moves job s (Err (failed.Faulted column)) old new =
-    FailedAt old new s column × Acts (entry.Fault job s column) [] old new
+    FailedAt old new s column × LogsEntry (entry.Fault job s column) [] old new
     × (OnWay old s (λ f c. (c ≡ column) × IsTrue (is_live (slot_at old.table s c)))
     ⊎ AtEnd old s (λ f. f.relay.target ≡ column))
 Moves job s (Err failed.LogFull) old new = ⊥

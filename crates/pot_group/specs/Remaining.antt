@@ -13,7 +13,7 @@ use Rattle.pot_machine.specs.Rules.{IsTable}
 use Rattle.pot_bytes.specs.Digests.{digest_of}
 use Rattle.pot_shelves.specs.Shelves.{Shelves}
 use Rattle.pot_group.specs.Arrivals.{arrivals}
-use Rattle.pot_group.specs.Frames.{FailedBy, IsFramed, WrittenBy}
+use Rattle.pot_group.specs.Frames.{FailedBy, IsFramed, Tries, WrittenBy}
 
 -- An archive serves this data slot, which has this digest, or it served it: no other column names
 -- it, and a move to it has passed the stripe.
@@ -45,7 +45,8 @@ ServingHasServed =
 pub record KeepsServed (t u : Table) (log : List Entry) (s c : ℕ) (d : Digest)
     (number : ℕ) : Type 0 where
   pub now : HasServed u s c d number
-  pub wrote : (block : List ℕ) → WrittenBy t log number s block → digest_of block ≡ d
+  pub wrote : (tried : Tries) (at : ℕ) (block : List ℕ) → WrittenBy tried at t log number s block
+      → digest_of block ≡ d
   pub failed : FailedBy t log number s → MendFailed t log s c
 
 abbrev pub ServedIsKept : Type 0
@@ -59,9 +60,9 @@ ServedIsKept =
 -- still, unless a relay's write into the slot failed, or its count of losses rose.
 abbrev pub BlocksRemain : Type 0
 BlocksRemain =
-    (t u : Table) (log : List Entry) (shelves : Shelves) (s c : ℕ) (d : Digest) (number : ℕ)
-    (block : List ℕ) → IsTable t → Replays t log u → IsFramed t log shelves → c < t.data_columns
-    → HasServed t s c d number → (Contains (arrivals log) number → ⊥)
+    (t u : Table) (log : List Entry) (tried : Tries) (shelves : Shelves) (s c : ℕ) (d : Digest)
+    (number : ℕ) (block : List ℕ) → IsTable t → Replays t log u → IsFramed t log tried shelves
+    → c < t.data_columns → HasServed t s c d number → (Contains (arrivals log) number → ⊥)
     → (shelves.taken number).held s ≡ Some block → digest_of block ≡ d
     → ((b : List ℕ) × (shelves.held number s ≡ Some b) × (digest_of b ≡ d))
     ⊎ (MendFailed t log s c ⊎ Rose (shelves.losses_taken number) (shelves.losses number))

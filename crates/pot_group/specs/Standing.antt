@@ -4,5 +4,5 @@ use Rattle.pot_machine.specs.Table.{Table}
 use Rattle.pot_group.specs.declared.standing.Standing.{Standing}
 
 -- The cursor is the table's. Of the parity block nothing is promised: it changes no answer.
-abbrev pub IsStanding : Table → Standing → Type 0
-IsStanding t s = s.cursor ≡ t.cursor
+abbrev pub IsCursorStanding : Table → Standing → Type 0
+IsCursorStanding t s = s.cursor ≡ t.cursor

@@ -26,10 +26,10 @@ was_gone (p, looked.Gone) = true
 was_gone _ = false
 
 -- the look saw the block, or that it is gone
-abbrev pub IsAnswered : Look → Type 0
-IsAnswered (p, looked.Seen) = Unit {0}
-IsAnswered (p, looked.Gone) = Unit {0}
-IsAnswered _ = ⊥
+abbrev pub IsLookAnswered : Look → Type 0
+IsLookAnswered (p, looked.Seen) = Unit {0}
+IsLookAnswered (p, looked.Gone) = Unit {0}
+IsLookAnswered _ = ⊥
 
 -- Look after look, each at the first Live slot at or after a place, and then behind that slot. Each
 -- is what a look by itself is.
@@ -46,18 +46,18 @@ LooksOn told job s c ((p, answer) ∷ rest) old new entries =
 abbrev pub EndsWith : List Look → Looked → Type 0
 EndsWith looks answer =
     (before : List Look) × (p : Place) × (looks ≡ before ++ (p, answer) ∷ [])
-    × ((x : Look) → Contains before x → IsAnswered x)
+    × ((x : Look) → Contains before x → IsLookAnswered x)
 
 -- how far the looks came
-abbrev pub IsReached : GroupView → ℕ → ℕ → Reached → List Look → Type 0
-IsReached old s c reached.End looks =
+abbrev pub IsSweepReached : GroupView → ℕ → ℕ → Reached → List Look → Type 0
+IsSweepReached old s c reached.End looks =
     (looks ≡ []) × IsPlace old.number old.table is_live s c None
-IsReached old s c (reached.Slot stripe column) looks =
+IsSweepReached old s c (reached.Slot stripe column) looks =
     (before : List Look) × (p : Place) × (answer : Looked) × (looks ≡ before ++ (p, answer) ∷ [])
-    × ((x : Look) → Contains looks x → IsAnswered x)
+    × ((x : Look) → Contains looks x → IsLookAnswered x)
     × (p.stripe ≡ stripe) × (p.column ≡ column)
-IsReached old s c (reached.Faulted column) looks = EndsWith looks (looked.Faulted column)
-IsReached old s c reached.LogFull looks = EndsWith looks looked.LogFull
+IsSweepReached old s c (reached.Faulted column) looks = EndsWith looks (looked.Faulted column)
+IsSweepReached old s c reached.LogFull looks = EndsWith looks looked.LogFull
 
 -- What a sweep saw, of four looks at most.
 pub record SweepCall (told : Type 0) (job s c : ℕ) (swept : Swept)
@@ -67,4 +67,4 @@ pub record SweepCall (told : Type 0) (job s c : ℕ) (swept : Swept)
   pub few : length looks ≤ 4
   pub seen_is : swept.seen ≡ length (filter was_seen looks)
   pub gone_is : swept.gone ≡ length (filter was_gone looks)
-  pub reaches : IsReached old s c swept.reached looks
+  pub reaches : IsSweepReached old s c swept.reached looks

@@ -6,6 +6,7 @@ ghost use Rattle.pot_machine.specs.Column.{homes_of};
 
 use crate::group::Group;
 use crate::known::Known;
+use crate::tried::Tried;
 use pot_bytes::{Block, LOG_BOUND};
 use pot_machine::{Column, Entry, GroupTable};
 use pot_outside::{Archive, Shelf};
@@ -28,6 +29,7 @@ struct Memory {
     log: Vec<Entry>,
     flights: Vec<Flight>,
     blinds: Vec<Snapshot<Block>>,
+    tried: Tried,
     known: Box<Known>,
 }
 
@@ -82,6 +84,9 @@ impl<A: Archive> Group<A> {
         let Ok(blinds) = Vec::with_capacity(alloc, LOG_BOUND) else {
             return Err(StartRefused { table, shelves });
         };
+        let Ok(tried) = Tried::none(alloc) else {
+            return Err(StartRefused { table, shelves });
+        };
         let Ok(first) = table.copy(alloc) else {
             return Err(StartRefused { table, shelves });
         };
@@ -92,6 +97,7 @@ impl<A: Archive> Group<A> {
             log,
             flights,
             blinds,
+            tried,
             known,
         };
         match Archives::take(alloc, shelves) {
@@ -116,6 +122,7 @@ impl<A: Archive> Group<A> {
         requires places { 16 ≤ vec_capacity memory.flights }
         requires blank { memory.blinds.items ≡ [] }
         requires blinds { log_bound ≤ vec_capacity memory.blinds }
+        requires tried { memory.tried ≡ [] }
         requires taken { IsTaken (IsTrue A.account.tells) (plain A.account.meaning archives) }
         requires archives { map (λ s. s.number) archives.shelves ≡ archives_in table }
         ensures { Begins (IsTrue A.account.tells) A.account.meaning number table archives.shelves
@@ -126,6 +133,7 @@ impl<A: Archive> Group<A> {
             mut log,
             flights,
             blinds,
+            tried,
             known,
         } = memory;
         let mut archives = archives;
@@ -139,6 +147,7 @@ impl<A: Archive> Group<A> {
             log,
             flights,
             blinds,
+            tried,
             archives,
             known,
         }

@@ -42,8 +42,8 @@ impl<A: Archive> Group<A> {
     ghost use Rattle.pot_steps.specs.Stripe.{IsSound, Sound};
     ghost use Rattle.pot_group.specs.Group.{OnGroup, stripe_in};
     ghost use Rattle.pot_group.specs.Relaying.{acted};
-    ghost use Rattle.pot_group.specs.Moving.{Steps};
-    ghost use Rattle.pot_group.specs.Calls.{Makes, MoveStepCall};
+    ghost use Rattle.pot_group.specs.Moving.{StepsMove};
+    ghost use Rattle.pot_group.specs.Calls.{MakesCall, MoveStepCall};
 
     /// Moves a column by one stripe, or ends its move. It writes to no other slot than that of the
     /// target at this stripe.
@@ -55,7 +55,7 @@ impl<A: Archive> Group<A> {
     pub fn move_step(&mut self, job: u32, column: u8) -> Result<MoveStep, MoveFault>
         requires job { 0 < job }
         requires column { column < width self.old.table }
-        ensures moves { Makes A.account (λ told. MoveStepCall told job column result) self.old
+        ensures moves { MakesCall A.account (λ told. MoveStepCall told job column result) self.old
             self.new }
     {
         if self.log.len() >= LOG_BOUND {
@@ -73,7 +73,7 @@ impl<A: Archive> Group<A> {
         requires column { column < width self.old.table }
         requires moves { (column_at self.old.table column).moving ≡ Some moving }
         requires room { length self.old.log < log_bound }
-        ensures { OnGroup A.account (λ told. Steps told job column result) self.old self.new }
+        ensures { OnGroup A.account (λ told. StepsMove told job column result) self.old self.new }
     {
         let _settled = self.logged();
         if moving.upto >= self.table.stripes() {
@@ -100,7 +100,7 @@ impl<A: Archive> Group<A> {
         requires stripe { moving.upto < self.old.table.stripes }
         requires live { slot_at self.old.table moving.upto column ≡ Live digest }
         requires room { length self.old.log < log_bound }
-        ensures { OnGroup A.account (λ told. Steps told job column result) self.old self.new }
+        ensures { OnGroup A.account (λ told. StepsMove told job column result) self.old self.new }
     {
         let _settled = self.logged();
         let mut block = Block::zero();
@@ -136,7 +136,7 @@ impl<A: Archive> Group<A> {
         requires sound { IsTrue A.account.tells
             → IsSound (stripe_in A.account self.old moving.upto) column block.now }
         requires room { length self.old.log < log_bound }
-        ensures { OnGroup A.account (λ told. Steps told job column result) self.old self.new }
+        ensures { OnGroup A.account (λ told. StepsMove told job column result) self.old self.new }
     {
         match self.archives.write(moving.to, moving.upto, block) {
             Ok(()) => {

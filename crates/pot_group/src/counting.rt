@@ -1,7 +1,7 @@
 //! How many slots of a table are in each state.
 ghost use Rattle.std.specs.Prelude.{◌≡◌, ◌<◌, ◌+◌, ◌*◌, take};
 ghost use Rattle.pot_machine.specs.Table.{width};
-ghost use Rattle.pot_group.specs.Counting.{IsCounted, CountsFirst};
+ghost use Rattle.pot_group.specs.Counting.{AreSlotsCounted, CountsFirst};
 
 use pot_machine::{GroupTable, SlotState};
 
@@ -22,7 +22,7 @@ pub struct Counts {
 
 /// Counts the slots of a table.
 pub(crate) fn counts_of(table: &GroupTable) -> Counts
-    ensures { IsCounted table.now result }
+    ensures { AreSlotsCounted table.now result }
 {
     let cursor = table.cursor();
     let mut counts = Counts {

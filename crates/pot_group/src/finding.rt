@@ -1,6 +1,6 @@
 //! The next place of a table whose slot is of a kind.
 ghost use Rattle.std.specs.Prelude.{◌≡◌, ◌<◌};
-ghost use Rattle.pot_group.specs.Finding.{is_of, IsNext, IsNextColumn};
+ghost use Rattle.pot_group.specs.Finding.{is_of, IsNextPlace, IsNextColumn};
 
 use pot_machine::{GroupTable, SlotState};
 
@@ -44,7 +44,7 @@ pub(crate) fn next_place(
     column: u8,
     kind: Kind,
 ) -> Option<(u32, u8)>
-    ensures { IsNext table.now (is_of kind) stripe column result }
+    ensures { IsNextPlace table.now (is_of kind) stripe column result }
 {
     for at in stripe..table.stripes() {
         let from = if at == stripe { column } else { 0 };

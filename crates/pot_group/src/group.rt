@@ -5,6 +5,7 @@ ghost use Rattle.pot_machine.specs.Table.{width};
 
 use crate::known::Known;
 use crate::reads::{Found, read_sound};
+use crate::tried::Tried;
 use pot_bytes::{Block, Digest};
 use pot_machine::{Entry, GroupTable};
 use pot_outside::{Archive, Shelf};
@@ -25,7 +26,7 @@ pub struct Ended<A> {
 }
 
 /// A group of archives. Contracts see its number, the table that it began with, its table and its
-/// log now, the blinds of its relays, and its archives.
+/// log now, the blinds of its relays, the blocks of puts whose write failed, and its archives.
 #[derive(Drop)]
 pub struct Group<A: Archive> {
     pub(crate) number: u8,
@@ -36,6 +37,7 @@ pub struct Group<A: Archive> {
     /// The blind of each relay that the log begins, in order. They take no memory, and only
     /// contracts see them.
     pub(crate) blinds: Vec<Snapshot<Block>>,
+    pub(crate) tried: Tried,
     pub(crate) archives: Archives<A>,
     pub(crate) known: Box<Known>,
 }
@@ -57,6 +59,7 @@ impl<A: Archive> Model for Group<A> {
       log = g.log.items;
       flights = g.flights.items;
       blinds = map (λ s. s.value) g.blinds.items;
+      tried = g.tried;
       shelves = g.archives;
     } };
 
@@ -68,6 +71,7 @@ impl<A: Archive> Model for Group<A> {
           log = g.log.items;
           flights = g.flights.items;
           blinds = map (λ s. s.value) g.blinds.items;
+          tried = g.tried;
           shelves = g.archives;
         }))
         × (log_bound ≤ vec_capacity g.log) × (16 ≤ vec_capacity g.flights)
@@ -161,6 +165,7 @@ impl<A: Archive> Group<A> {
             log,
             flights: _,
             blinds: _,
+            tried: _,
             archives,
             known: _,
         } = self;

@@ -1,6 +1,6 @@
 //! Reads of up to four slots, whose blocks are digested side by side.
 ghost use Rattle.std.specs.Prelude.{◌≡◌, ◌<◌, ◌≤◌, ◌+◌, ◌++◌, [], ◌∷◌};
-ghost use Rattle.pot_group.specs.Lanes.{lanes_of, AreDigests, Finds};
+ghost use Rattle.pot_group.specs.Lanes.{lanes_of, AreLaneDigests, FindsInLane};
 
 use crate::finding::Kind;
 use crate::group::Group;
@@ -42,7 +42,7 @@ impl Lane {
 
     /// What the read came to, where its block has this digest.
     pub(crate) fn found(&self, digest: Digest) -> Found
-        ensures { Finds self.now digest result }
+        ensures { FindsInLane self.now digest result }
     {
         match self.answer {
             Ok(Held::Held) => {
@@ -90,7 +90,7 @@ impl Lanes {
 /// The digests of the first blocks, taken side by side where there are two or more.
 pub(crate) fn digests_of(lanes: &[Lane; LANES], count: usize) -> [Digest; LANES]
     requires { count ≤ 4 }
-    ensures { AreDigests count lanes.now result }
+    ensures { AreLaneDigests count lanes.now result }
 {
     if count < 2 {
         return [digest_of(lanes[0].block.bytes()); LANES];

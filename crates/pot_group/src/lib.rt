@@ -52,7 +52,9 @@
 //!    bring the others). `end` hands out all of them.
 //! 11. The frame (`frame`). Each block that an archive holds or ever held was there at its taking,
 //!    or an entry may have written it; and each slot that had a block then has one, unless the log
-//!    tells of a failed write there or the archive's count of losses rose (`frame_laws`).
+//!    tells of a failed write there or the archive's count of losses rose (`frame_laws`). The entry
+//!    of a put whose own write failed names no digest. So the group keeps that block, with its
+//!    place in the log (`tried`), and no other may stand in that slot.
 //!
 //! `flying`, 7, 8, 11 and the losses of 6 and 9 are said of archives that tell what they hold, and
 //! all else always.
@@ -102,6 +104,7 @@ mod relaying;
 mod standing;
 mod sweeping;
 mod telling;
+mod tried;
 mod uses;
 
 pub use answers::{Looked, PutFault};

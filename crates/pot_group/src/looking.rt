@@ -11,7 +11,7 @@ use pot_outside::Archive;
 
 impl<A: Archive> Group<A> {
     ghost use Rattle.pot_group.specs.Group.{OnGroup, with_archives};
-    ghost use Rattle.pot_group.specs.Calls.{Makes, LookCall};
+    ghost use Rattle.pot_group.specs.Calls.{MakesCall, LookCall};
     ghost use Rattle.pot_group.specs.Looking.{Looks};
 
     /// Reads the block of a slot, and logs what it came to.
@@ -24,7 +24,8 @@ impl<A: Archive> Group<A> {
         requires job { 0 < job }
         requires stripe { place.stripe < self.old.table.stripes }
         requires column { place.column < width self.old.table }
-        ensures looks { Makes A.account (λ told. LookCall told job place into.new result) self.old
+        ensures looks { MakesCall A.account (λ told. LookCall told job place into.new result)
+            self.old
             self.new }
     {
         if self.log.len() >= LOG_BOUND {

@@ -37,7 +37,7 @@ impl<A: Archive> Group<A> {
     ghost use Rattle.pot_shelves.specs.Shelves.{plain, Brings, OnShelves};
     ghost use Rattle.pot_group.specs.Group.{with_archives, view_of};
     ghost use Rattle.pot_group.specs.Moving.{MoveUse};
-    ghost use Rattle.pot_group.specs.Calls.{Makes, MoveBeginCall, SwapCall};
+    ghost use Rattle.pot_group.specs.Calls.{MakesCall, MoveBeginCall, SwapCall};
     ghost use Rattle.pot_group.specs.Relaying.{acted};
 
     /// A column begins to move to an archive that comes.
@@ -53,7 +53,7 @@ impl<A: Archive> Group<A> {
     ) -> Result<(), ShelfRefused<A>>
         requires job { 0 < job }
         requires column { column < width self.old.table }
-        ensures moves { Makes A.account
+        ensures moves { MakesCall A.account
             (λ told. MoveBeginCall told A.account.meaning job column shelf result) self.old
             self.new }
     {
@@ -90,7 +90,7 @@ impl<A: Archive> Group<A> {
     pub fn swap(&mut self, job: u32, column: u8, shelf: Shelf<A>) -> Result<u32, ShelfRefused<A>>
         requires job { 0 < job }
         requires column { column < width self.old.table }
-        ensures swaps { Makes A.account
+        ensures swaps { MakesCall A.account
             (λ told. SwapCall told A.account.meaning job column shelf result) self.old self.new }
     {
         if self.log.len() >= LOG_BOUND {

@@ -32,7 +32,7 @@ impl<A: Archive> Group<A> {
     ghost use Rattle.pot_machine.specs.Rules.{IsTable};
     ghost use Rattle.pot_steps.specs.Stripe.{Sound};
     ghost use Rattle.pot_group.specs.Group.{OnGroup, stripe_in};
-    ghost use Rattle.pot_group.specs.Calls.{Makes, PutCall};
+    ghost use Rattle.pot_group.specs.Calls.{MakesCall, PutCall};
     ghost use Rattle.pot_shelves.specs.Shelves.{plain};
     ghost use Rattle.pot_group.specs.Putting.{Passes, FindsStripe, HasOld, BlockMeans};
 
@@ -50,7 +50,7 @@ impl<A: Archive> Group<A> {
     /// block was not written.
     pub fn put(&mut self, job: u32, block: &Block) -> Result<Place, PutFault>
         requires job { 0 < job }
-        ensures puts { Makes A.account (λ told. PutCall told job block.now result) self.old
+        ensures puts { MakesCall A.account (λ told. PutCall told job block.now result) self.old
             self.new }
     {
         if self.log.len() >= LOG_BOUND {
@@ -166,6 +166,7 @@ impl<A: Archive> Group<A> {
                     stripe,
                     column,
                 };
+                self.tried.keep(self.log.len() as u64, block);
                 note(&mut self.table, &mut self.log, entry);
                 Err(PutFault::Faulted { column })
             }

@@ -98,8 +98,8 @@ impl<A: Archive> Group<A> {
     ghost use Rattle.pot_steps.specs.RelaySteps.{no_relay};
     ghost use Rattle.std.specs.Prelude.{slice_index_or};
     ghost use Rattle.pot_group.specs.Group.{OnGroup, stripe_in, view_of, CoversOne, IsSettled};
-    ghost use Rattle.pot_group.specs.Relaying.{acted, Advances, BeginMeans, HopsOver, EndsWell};
-    ghost use Rattle.pot_group.specs.Calls.{Makes, AdvanceCall, BeginCall, MendCall};
+    ghost use Rattle.pot_group.specs.Relaying.{acted, Advances, BeginMeans, HopsOver, EndsRelay};
+    ghost use Rattle.pot_group.specs.Calls.{MakesCall, AdvanceCall, BeginCall, MendCall};
 
     /// Begins to rebuild a slot that is Lost or Broken, with a random block.
     ///
@@ -110,7 +110,7 @@ impl<A: Archive> Group<A> {
         requires job { 0 < job }
         requires stripe { place.stripe < self.old.table.stripes }
         requires column { place.column < width self.old.table }
-        ensures begins { Makes A.account (λ told. BeginCall told job place blind.now result)
+        ensures begins { MakesCall A.account (λ told. BeginCall told job place blind.now result)
             self.old self.new }
     {
         block_law(blind);
@@ -209,7 +209,7 @@ impl<A: Archive> Group<A> {
     pub fn advance(&mut self, job: u32, stripe: u32) -> Result<Advanced, AdvanceFault>
         requires job { 0 < job }
         requires stripe { stripe < self.old.table.stripes }
-        ensures advances { Makes A.account (λ told. AdvanceCall told job stripe result) self.old
+        ensures advances { MakesCall A.account (λ told. AdvanceCall told job stripe result) self.old
             self.new }
     {
         if self.log.len() >= LOG_BOUND {
@@ -268,7 +268,8 @@ impl<A: Archive> Group<A> {
         requires job { 0 < job }
         requires stripe { place.stripe < self.old.table.stripes }
         requires column { place.column < width self.old.table }
-        ensures mends { Makes A.account (λ told. MendCall told job place blind.now result) self.old
+        ensures mends { MakesCall A.account (λ told. MendCall told job place blind.now result)
+            self.old
             self.new }
     {
         let _settled = self.logged();
@@ -417,7 +418,7 @@ impl<A: Archive> Group<A> {
         requires digest { digest_in (slot_at self.old.table flight.relay.stripe flight.relay.target)
             ≡ Some (digest_of block.now) }
         requires room { length self.old.log < log_bound }
-        ensures { OnGroup A.account (λ told. EndsWell told job block.now flight result) self.old
+        ensures { OnGroup A.account (λ told. EndsRelay told job block.now flight result) self.old
             self.new }
     {
         let stripe = flight.relay.stripe;

@@ -18,11 +18,11 @@ pub struct Standing {
 }
 
 impl<A: Archive> Group<A> {
-    ghost use Rattle.pot_group.specs.Standing.{IsStanding};
+    ghost use Rattle.pot_group.specs.Standing.{IsCursorStanding};
 
     /// Tells where the group stands. It reads no archive, logs nothing and takes no memory.
     pub fn standing(&self) -> Standing
-        ensures { IsStanding self.now.table result }
+        ensures { IsCursorStanding self.now.table result }
     {
         Standing {
             cursor: self.table.cursor(),

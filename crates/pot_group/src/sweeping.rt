@@ -111,7 +111,7 @@ fn entry_of(job: u32, place: Place, found: Found) -> Entry
 impl<A: Archive> Group<A> {
     ghost use Rattle.std.specs.Prelude.{IsTrue};
     ghost use Rattle.pot_group.specs.Group.{view_of};
-    ghost use Rattle.pot_group.specs.Calls.{Makes, Made};
+    ghost use Rattle.pot_group.specs.Calls.{MakesCall, Made};
     ghost use Rattle.pot_group.specs.Sweeping.{SweepCall};
 
     /// Looks at up to four Live slots, the first at or after this place and those that follow it by
@@ -120,7 +120,8 @@ impl<A: Archive> Group<A> {
     /// the column may be beyond the last ones. All blocks are read before they are digested.
     pub fn sweep(&mut self, job: u32, stripe: u32, column: u8) -> Swept
         requires job { 0 < job }
-        ensures sweeps { Makes A.account (λ told. SweepCall told job stripe column result) self.old
+        ensures sweeps { MakesCall A.account (λ told. SweepCall told job stripe column result)
+            self.old
             self.new }
     {
         let _settled = self.logged();

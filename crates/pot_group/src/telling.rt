@@ -15,7 +15,7 @@ pub struct LogFull;
 impl<A: Archive> Group<A> {
     ghost use Rattle.pot_group.specs.Finding.{is_of, IsPlace};
     ghost use Rattle.pot_machine.specs.Table.{width};
-    ghost use Rattle.pot_group.specs.Calls.{Makes, CountCall};
+    ghost use Rattle.pot_group.specs.Calls.{MakesCall, CountCall};
 
     /// Counts the slots of the group by state, tells its cursor, and logs that it did.
     ///
@@ -23,7 +23,7 @@ impl<A: Archive> Group<A> {
     /// `LogFull` exactly where the log has 262,144 entries; nothing changes then.
     pub fn count(&mut self, job: u32) -> Result<Counts, LogFull>
         requires job { 0 < job }
-        ensures counts { Makes A.account (λ told. CountCall told job result) self.old self.new }
+        ensures counts { MakesCall A.account (λ told. CountCall told job result) self.old self.new }
     {
         if self.log.len() >= LOG_BOUND {
             return Err(LogFull);

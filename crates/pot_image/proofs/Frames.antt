@@ -6,7 +6,7 @@ use Rattle.pot_image.specs.declared.fault.ImageFault.TheVariants.{Form}
 use Rattle.pot_image.specs.declared.fault.Fault.{Fault}
 use Rattle.pot_image.specs.declared.fault.Fault.TheVariants as faults
 use Rattle.pot_image.specs.Following.{Fails}
-use Rattle.pot_image.specs.Images.{Contents, Leaves}
+use Rattle.pot_image.specs.Images.{Contents, LeavesGrammar}
 use Rattle.pot_image.specs.Fields.{Grammar, IsOf, LeavesAt}
 use Rattle.pot_image.specs.Reading.{reading}
 use Rattle.pot_image.proofs.Once.{of_read, leaves_at, leaves_left, err_short}
@@ -19,11 +19,11 @@ pub nothing_left : {A : Type 0} (g : Grammar A) (bytes rest : List ℕ) (a : A) 
 nothing_left g bytes [] a e l = of_read g bytes a e
 nothing_left g bytes (x ∷ rest) a e l = absurd (omega (arith, l))
 
-pub leaves_form : (g : Grammar Contents) (bytes : List ℕ) (f : ImageFault) (left : ℕ) → f ≡ Form (16 + (length bytes - left)) → reading g bytes ≡ Err left → Leaves g bytes f
-leaves_form g bytes f left e h = subst (Leaves g bytes) (sym e) (left_at g bytes left (16 + (length bytes - left)) h refl)
+pub leaves_form : (g : Grammar Contents) (bytes : List ℕ) (f : ImageFault) (left : ℕ) → f ≡ Form (16 + (length bytes - left)) → reading g bytes ≡ Err left → LeavesGrammar g bytes f
+leaves_form g bytes f left e h = subst (LeavesGrammar g bytes) (sym e) (left_at g bytes left (16 + (length bytes - left)) h refl)
 
-pub leaves_over : (g : Grammar Contents) (bytes rest : List ℕ) (a : Contents) (f : ImageFault) → f ≡ Form (16 + (length bytes - 0)) → reading g bytes ≡ Ok (a, rest) → length rest == 0 ≡ false → Leaves g bytes f
-leaves_over g bytes rest a f e h l = subst (Leaves g bytes) (sym e) (length bytes, omega arith, leaves_left g bytes rest a h (some (length rest) l))
+pub leaves_over : (g : Grammar Contents) (bytes rest : List ℕ) (a : Contents) (f : ImageFault) → f ≡ Form (16 + (length bytes - 0)) → reading g bytes ≡ Ok (a, rest) → length rest == 0 ≡ false → LeavesGrammar g bytes f
+leaves_over g bytes rest a f e h l = subst (LeavesGrammar g bytes) (sym e) (length bytes, omega arith, leaves_left g bytes rest a h (some (length rest) l))
   where
     some : (n : ℕ) → n == 0 ≡ false → 0 < n
     some n q = grind (arith, nat_tests)

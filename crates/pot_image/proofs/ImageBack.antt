@@ -18,7 +18,7 @@ use Rattle.pot_image.specs.Heads.{head}
 use Rattle.pot_image.specs.Tables.{tables}
 use Rattle.pot_image.specs.Records.{records}
 use Rattle.pot_image.specs.Logs.{group_logs, index_log}
-use Rattle.pot_image.specs.Images.{Contents, contents, image, magic, format_number, stated_length, before_trailer, trailer, Answered, Trailed, Measured, Numbered, Marked, AnswersImage}
+use Rattle.pot_image.specs.Images.{Contents, contents, image, magic, format_number, stated_length, before_trailer, trailer, AnsweredFields, Trailed, Measured, Numbered, Marked, AnswersImage}
 use Rattle.pot_image.specs.Spelling.{IsCountable, head_bytes, table_bytes, entry_bytes, index_entry_bytes, counted_bytes, field_bytes, text_bytes, image_bytes}
 use Rattle.pot_image.specs.Rules.{IsImage}
 use Rattle.pot_image.proofs.Once.{of_read, once_value, never_both}
@@ -85,19 +85,19 @@ abbrev IsBack : Contents → Result Image ImageFault → Type 0
 IsBack v r = MatchResult r (λ i. contents i ≡ v) (λ e. e ≡ faults.NoMemory)
 
 module _ (v : Contents) (is : IsImage v) where
-  by_fault : (e : ImageFault) → Answered Second (field_bytes v) (Err e) → e ≡ faults.NoMemory
+  by_fault : (e : ImageFault) → AnsweredFields Second (field_bytes v) (Err e) → e ≡ faults.NoMemory
   by_fault (faults.Form place) a = absurd (never_both (image Second) (field_bytes v) v a.0 (fields_back v is) a.2)
   by_fault faults.NoMemory a = refl
   by_fault faults.Cut a = absurd a
   by_fault (faults.Trailer kept computed) a = absurd a
 
-  by_fields : (r : Result Image ImageFault) → Answered Second (field_bytes v) r → IsBack v r
+  by_fields : (r : Result Image ImageFault) → AnsweredFields Second (field_bytes v) r → IsBack v r
   by_fields (Ok i) a = once_value (image Second) (field_bytes v) (contents i) v a (fields_back v is)
   by_fields (Err e) a = by_fault e a
 
   by_trailer : (r : Result Image ImageFault) → Trailed Second (image_bytes v) r → IsBack v r
   by_trailer r (inl other) = absurd (other.0 (trailer_is v ∙ ap digest_bytes (sym (text_is v))))
-  by_trailer r (inr same) = by_fields r (subst (λ b. Answered Second b r) (body_is v) same.1)
+  by_trailer r (inr same) = by_fields r (subst (λ b. AnsweredFields Second b r) (body_is v) same.1)
 
   by_length : (r : Result Image ImageFault) → Measured Second (image_bytes v) r → IsBack v r
   by_length r (inl less) = (let a = image_long v in let b = stated v is.short in let c = less.0 in absurd (omega (arith, a, b, c)))

@@ -12,7 +12,7 @@ use Rattle.pot_image.specs.Heads.{head}
 use Rattle.pot_image.specs.Tables.{tables}
 use Rattle.pot_image.specs.Records.{records}
 use Rattle.pot_image.specs.Logs.{group_log_behind, group_logs, index_log}
-use Rattle.pot_image.specs.Images.{Contents, contents, image, Answered, Trailed, Measured, Numbered}
+use Rattle.pot_image.specs.Images.{Contents, contents, image, AnsweredFields, Trailed, Measured, Numbered}
 use Rattle.pot_image.specs.Rules.{FitsTogether}
 use Rattle.pot_image.proofs.Once.{read_of}
 use Rattle.pot_image.proofs.Inverse.{parts, done_is, several_keep}
@@ -52,7 +52,7 @@ IsKept r = IfOk r (λ i. FitsTogether (contents i))
 refused : (r : Result Image ImageFault) (e : ImageFault) → r ≡ Err e → IsKept r
 refused r e q = subst IsKept (sym q) tt
 
-by_fields : (format : Format) (body : List ℕ) (r : Result Image ImageFault) → Answered format body r → IsKept r
+by_fields : (format : Format) (body : List ℕ) (r : Result Image ImageFault) → AnsweredFields format body r → IsKept r
 by_fields format body (Ok i) a = image_kept format body [] (contents i) (read_of (image format) body (contents i) a)
 by_fields format body (Err e) a = tt
 

@@ -19,7 +19,7 @@ use Rattle.pot_image.specs.Numbers.{natural, any, at_most, between, flag, digest
 use Rattle.pot_image.specs.Records.{is_name, name}
 use Rattle.pot_image.specs.Logs.{stripe, column, place, archive, entry_of, kinds, entry, entry_behind, group_log, group_log_behind, group_logs, behind_name, index_entry_of, index_kinds, index_entry, index_entry_behind, index_log}
 use Rattle.pot_image.specs.Spelling.{flag_bytes, lead_bytes, place_bytes, entry_bytes, index_entry_bytes, counted_bytes}
-use Rattle.pot_image.specs.Rules.{IsJob, IsAt, FitsEntry, FitsIndexEntry, IsLog}
+use Rattle.pot_image.specs.Rules.{IsJob, IsSpotOf, FitsEntry, FitsIndexEntry, IsLog}
 use Rattle.pot_image.proofs.HeadBack.{is_between}
 use Rattle.pot_image.proofs.ReadBack.{Back, back_done, back_then, back_end, back_as, back_number, back_byte, back_text, back_flag, back_digest, back_several}
 
@@ -47,15 +47,15 @@ module _ (rack : Rack) (rules : IsRack rack) where
       (back_then (natural 1 (between 1 (kinds Second))) _ (kind ∷ []) (big_bytes 4 job ++ y) kind e (back_byte (between 1 18) kind (is_between 1 18 kind l m))
       (back_then (natural 4 any) _ (big_bytes 4 job) y job e (back_number 4 any job (omega (arith, j)) refl) h))
 
-  place_back : (s c : ℕ) → IsAt rack s c → Back (place rack) (place_bytes s c) (s, c)
+  place_back : (s c : ℕ) → IsSpotOf rack s c → Back (place rack) (place_bytes s c) (s, c)
   place_back s c at =
       back_then (stripe rack) (λ s. column rack >>= λ c. done (s, c)) (big_bytes 4 s) (c ∷ []) s (s, c) (stripe_back s at.0)
       (back_end (column rack) (λ c. (s, c)) (c ∷ []) c (column_back c at.1))
 
-  at_place : (next : ℕ → ℕ → Grammar Entry) (s c : ℕ) (y : List ℕ) (e : Entry) → IsAt rack s c → Back (next s c) y e → Back (place rack >>= λ p. next p.0 p.1) (place_bytes s c ++ y) e
+  at_place : (next : ℕ → ℕ → Grammar Entry) (s c : ℕ) (y : List ℕ) (e : Entry) → IsSpotOf rack s c → Back (next s c) y e → Back (place rack >>= λ p. next p.0 p.1) (place_bytes s c ++ y) e
   at_place next s c y e at h = back_then (place rack) (λ p. next p.0 p.1) (place_bytes s c) y (s, c) e (place_back s c at) h
 
-  placed_back : (make : ℕ → ℕ → Entry) (s c : ℕ) → IsAt rack s c → Back (place rack >>= λ p. done (make p.0 p.1)) (place_bytes s c) (make s c)
+  placed_back : (make : ℕ → ℕ → Entry) (s c : ℕ) → IsSpotOf rack s c → Back (place rack >>= λ p. done (make p.0 p.1)) (place_bytes s c) (make s c)
   placed_back make s c at = back_end (place rack) (λ p. make p.0 p.1) (place_bytes s c) (s, c) (place_back s c at)
 
   move_back : (make : ℕ → ℕ → Entry) (c to : ℕ) → c < rack.columns + rack.parity → to ≤ 511 → Back (column rack >>= λ c. archive >>= λ to. done (make c to)) ((c ∷ []) ++ big_bytes 4 to) (make c to)

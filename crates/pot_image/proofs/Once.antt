@@ -3,7 +3,7 @@ use Rattle.std.proofs.Common.{append-nil, ◌-◌, ◌≡◌, ◌⊎◌, inl, in
 use Rattle.std.proofs.lemmas.List.{take-append-drop, length-take-le}
 use Rattle.std.proofs.lemmas.Bool.{le-leb, leb-true, and_parts, true≢false, cases_Bool}
 use Rattle.std.proofs.Math.Seq.{take-append_seam, drop-append_seam}
-use Rattle.pot_image.specs.Fields.{Field, Grammar, done, wants, IsField, ReadsFields, Breaks, joined, IsOf, BreaksAt, RunsOnTo, LeavesAt}
+use Rattle.pot_image.specs.Fields.{Field, Grammar, done, wants, IsField, ReadsFields, BreaksField, joined, IsOf, LeavesAt}
 use Rattle.pot_image.specs.Reading.{◌>>=◌, stands, reading}
 
 -- what follows a result that is Ok
@@ -89,14 +89,14 @@ is_read (wants f next) [] rest a h = absurd h
 is_read (wants f next) (x ∷ xs) rest a h = (ap (reading (wants f next)) (append_assoc x (joined xs) rest) ∙ reads_on f next x (joined xs ++ rest) h.0 ∙ is_read (next x) xs rest a h.1)
 
 pub breaks_are : {A : Type 0} (g : Grammar A) (bytes : List ℕ) (n : ℕ) → reading g bytes ≡ Err n
-    → (xs : List (List ℕ)) × (rest : List ℕ) × (bytes ≡ joined xs ++ rest) × Breaks g xs rest × (n ≡ length rest)
+    → (xs : List (List ℕ)) × (rest : List ℕ) × (bytes ≡ joined xs ++ rest) × BreaksField g xs rest × (n ≡ length rest)
 unfolding reading
 breaks_are {A} (done b) bytes n e = absurd (not_both (b, bytes) n _ refl e)
 breaks_are {A} (wants f next) bytes n e = (let again = breaks_are (next (take f.size bytes)) (drop f.size bytes) n in by_test (cases_Bool (stands f bytes)) again)
   where
     by_test : ((stands f bytes ≡ true) ⊎ (stands f bytes ≡ false))
-        → (reading (next (take f.size bytes)) (drop f.size bytes) ≡ Err n → (xs : List (List ℕ)) × (rest : List ℕ) × (drop f.size bytes ≡ joined xs ++ rest) × Breaks (next (take f.size bytes)) xs rest × (n ≡ length rest))
-        → (xs : List (List ℕ)) × (rest : List ℕ) × (bytes ≡ joined xs ++ rest) × Breaks (wants f next) xs rest × (n ≡ length rest)
+        → (reading (next (take f.size bytes)) (drop f.size bytes) ≡ Err n → (xs : List (List ℕ)) × (rest : List ℕ) × (drop f.size bytes ≡ joined xs ++ rest) × BreaksField (next (take f.size bytes)) xs rest × (n ≡ length rest))
+        → (xs : List (List ℕ)) × (rest : List ℕ) × (bytes ≡ joined xs ++ rest) × BreaksField (wants f next) xs rest × (n ≡ length rest)
     by_test (inl met) again =
         let read : reading (next (take f.size bytes)) (drop f.size bytes) ≡ Err n = ap (λ b. cond b (reading (next (take f.size bytes)) (drop f.size bytes)) (Err (length bytes))) (sym met) ∙ e in
         let r = again read in
@@ -119,7 +119,7 @@ breaks_are {A} (wants f next) bytes n e = (let again = breaks_are (next (take f.
             let met : stands f bytes ≡ true = ap₂ (λ a b. a && b) (le-leb _ _ long) (ap f.holds first ∙ is.1) in
             true≢false (sym met ∙ unmet)
 
-pub breaks_read : {A : Type 0} (g : Grammar A) (xs : List (List ℕ)) (rest : List ℕ) → Breaks g xs rest → reading g (joined xs ++ rest) ≡ Err (length rest)
+pub breaks_read : {A : Type 0} (g : Grammar A) (xs : List (List ℕ)) (rest : List ℕ) → BreaksField g xs rest → reading g (joined xs ++ rest) ≡ Err (length rest)
 unfolding reading
 breaks_read (done b) xs rest h = absurd h
 breaks_read (wants f next) [] rest h = stops (cases_Bool (stands f rest))

@@ -1,5 +1,5 @@
 -- The fields of a place.
-use Rattle.std.proofs.Common.{◌≡◌, ◌≤◌, ℕ, ◌*◌, ◌==◌, ◌&&◌, Bool, true, false, List, Ok, ap, ap₂, arith, eq-eqb}
+use Rattle.std.proofs.Common.{◌≡◌, ◌≤◌, ℕ, ◌*◌, ◌==◌, ◌&&◌, Bool, true, false, List, Ok, ap₂, arith, eq-eqb}
 use Rattle.std.proofs.lemmas.Bool.{eqb-true, le-leb}
 use Rattle.pot_image.specs.declared.fault.Fault.{Fault}
 use Rattle.pot_image.specs.Reading.{reading}

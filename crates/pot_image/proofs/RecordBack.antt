@@ -19,7 +19,7 @@ use Rattle.pot_machine.specs.Table.{Table}
 use Rattle.pot_index.specs.declared.record.Record.{Record}
 use Rattle.pot_index.specs.declared.record.Split.{Split}
 use Rattle.pot_index.specs.Fits.{group_of, FitsPlace, FitsSplit, FitsRack}
-use Rattle.pot_index.specs.Index.{Ascends}
+use Rattle.pot_index.specs.Index.{NamesAscend}
 use Rattle.pot_index.specs.Records.{current_of, splits_of, name_bytes, geometry_bytes, place_bytes, split_bytes, record_bytes}
 use Rattle.pot_index.proofs.SearchLemmas.{less_at}
 use Rattle.pot_image.specs.declared.format.Format.TheVariants.{Second}
@@ -133,7 +133,7 @@ above_nothing before x e = ap (λ o. elim o [ None ↦ true | Some r ↦ is_lt (
 above_last : (before : List Record) (x : List ℕ) (r : Record) → slice_get before (length before - 1) ≡ Some r → is_lt (slice_cmp nat_cmp r.name x) ≡ true → is_above before x ≡ true
 above_last before x r e h = ap (λ o. elim o [ None ↦ true | Some r ↦ is_lt (slice_cmp nat_cmp r.name x) ]) e ∙ h
 
-name_above : (rs : List Record) (i : ℕ) → Ascends rs → i < length rs → is_above (take i rs) (get_or rs i no_record).name ≡ true
+name_above : (rs : List Record) (i : ℕ) → NamesAscend rs → i < length rs → is_above (take i rs) (get_or rs i no_record).name ≡ true
 name_above rs zero up l = above_nothing (take 0 rs) (get_or rs 0 no_record).name refl
 name_above rs (suc i) up l =
     let size : length (take (suc i) rs) ≡ suc i = length-take-le (suc i) rs (omega (arith, l)) in

@@ -20,7 +20,7 @@ use Rattle.pot_object.specs.Pieces.{longest, pieces_of}
 use Rattle.pot_machine.specs.Table.{Table}
 use Rattle.pot_index.specs.declared.record.Record.{Record}
 use Rattle.pot_index.specs.Fits.{FitsSplit, FitsRack}
-use Rattle.pot_index.specs.Index.{Ascends}
+use Rattle.pot_index.specs.Index.{NamesAscend}
 use Rattle.pot_image.specs.declared.format.Format.{Format}
 use Rattle.pot_image.specs.Fields.{ReadsFields, done, wants}
 use Rattle.pot_image.specs.Reading.{◌>>=◌, several, reading}
@@ -138,7 +138,7 @@ one_record rack ts n before x are k = record {
         let next : get_or (before ++ x ∷ []) (i + 1) d ≡ x = ap (λ j. get_or (before ++ x ∷ []) j d) behind ∙ get_or-append_seam before x [] d in
         subst (λ r. Follows r (get_or (before ++ x ∷ []) (i + 1) d)) (sym here) (subst (Follows (get_or before i d)) (sym next) (above_is before x.name (get_or before i d) (ap (slice_get before) last ∙ slice_get-get_or before i d below) k.above))
 
-ascends : (rs : List Record) (d : Record) → ((k : ℕ) → k + 1 < length rs → Follows (get_or rs k d) (get_or rs (k + 1) d)) → Ascends rs
+ascends : (rs : List Record) (d : Record) → ((k : ℕ) → k + 1 < length rs → Follows (get_or rs k d) (get_or rs (k + 1) d)) → NamesAscend rs
 ascends rs d h =
     sorted_from_all_adjacent nat_list_cmp_total (map (λ r. r.name) rs) d.name (λ k l. at k (let n = length-map rs (λ r. r.name) in omega (arith, l, n)))
   where

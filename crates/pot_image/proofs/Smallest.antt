@@ -1,11 +1,12 @@
--- There is something that an image may hold: one group of one data column and one stripe, with nothing stored.
+-- There is something that an image may hold: one group of one data column and one stripe, with
+-- nothing stored.
 use Rattle.std.proofs.Common.{◌≡◌, zero, suc, [], ◌∷◌, length, All, refl, arith}
 use Rattle.std.specs.List.Sorted.{IsStrictlySortedBy}
 use Rattle.pot_bytes.specs.declared.rack.Rack.{Rack}
 use Rattle.pot_bytes.specs.Rack.{IsRack}
 use Rattle.pot_machine.specs.Making.{empty_table}
 use Rattle.pot_machine.proofs.Empty.{empty_is_table}
-use Rattle.pot_index.specs.Index.{Ascends}
+use Rattle.pot_index.specs.Index.{NamesAscend}
 use Rattle.pot_image.specs.Images.{Contents}
 use Rattle.pot_image.specs.Spelling.{table_bytes, field_bytes}
 use Rattle.pot_image.specs.Rules.{FitsTable, HaveDigests, FitsEntry, IsLog, IsImage}
@@ -39,7 +40,7 @@ size : length (field_bytes smallest) ≡ 70
 unfolding field_bytes table_bytes
 size = refl
 
-none_ascend : Ascends []
+none_ascend : NamesAscend []
 unfolding IsStrictlySortedBy
 none_ascend = tt
 

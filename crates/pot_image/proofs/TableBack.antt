@@ -25,7 +25,7 @@ use Rattle.pot_machine.specs.Column.{homes_of}
 use Rattle.pot_machine.specs.Table.{archives_in}
 use Rattle.pot_image.specs.Tables.{is_free, column, column_behind, columns, allows, state_of, slot, slot_behind, stripe_slots, slots, is_cursor, cursor, table, table_behind, tables}
 use Rattle.pot_image.specs.Spelling.{cursor_bytes, column_bytes, slot_bytes, table_bytes}
-use Rattle.pot_image.specs.Rules.{HasDigest, HaveDigests, FitsTable, AreTables}
+use Rattle.pot_image.specs.Rules.{HasSlotDigest, HaveDigests, FitsTable, AreTables}
 use Rattle.pot_image.proofs.ColumnRules.{AreFree, free_rest, IsWithin}
 use Rattle.pot_image.proofs.Archives.{free_of_archives}
 use Rattle.pot_image.proofs.SlotRules.{looks_back, allowed_by}
@@ -70,14 +70,14 @@ columns_back w stripes taken cs l e free moves =
 
 -- SLOTS
 
-slot_back : (allowed : Bool → Bool) (x : SlotState) → allowed (is_void x) ≡ true → HasDigest x → Back (slot allowed) (slot_bytes x) x
+slot_back : (allowed : Bool → Bool) (x : SlotState) → allowed (is_void x) ≡ true → HasSlotDigest x → Back (slot allowed) (slot_bytes x) x
 unfolding slot
 slot_back allowed Void e h = (back_then (natural 1 (λ n. between 0 3 n && allowed (n == 0))) _ (0 ∷ []) [] 0 Void (back_byte _ 0 e) (back_done Void))
 slot_back allowed (Live d) e h = (back_then (natural 1 (λ n. between 0 3 n && allowed (n == 0))) _ (1 ∷ []) d.bytes 1 (Live d) (back_byte _ 1 e) (back_end digest (λ d. state_of 1 d) d.bytes d (back_digest d h)))
 slot_back allowed (Lost d) e h = (back_then (natural 1 (λ n. between 0 3 n && allowed (n == 0))) _ (2 ∷ []) d.bytes 2 (Lost d) (back_byte _ 2 e) (back_end digest (λ d. state_of 2 d) d.bytes d (back_digest d h)))
 slot_back allowed (Broken d) e h = (back_then (natural 1 (λ n. between 0 3 n && allowed (n == 0))) _ (3 ∷ []) d.bytes 3 (Broken d) (back_byte _ 3 e) (back_end digest (λ d. state_of 3 d) d.bytes d (back_digest d h)))
 
-module _ (cursor : Cursor) (data_columns w z : ℕ) (xs : List SlotState) (some : 1 ≤ data_columns) (size : length xs ≡ z * w) (digests : (i : ℕ) → i < length xs → HasDigest (get_or xs i Void))
+module _ (cursor : Cursor) (data_columns w z : ℕ) (xs : List SlotState) (some : 1 ≤ data_columns) (size : length xs ≡ z * w) (digests : (i : ℕ) → i < length xs → HasSlotDigest (get_or xs i Void))
     (all : (s c : ℕ) → s < z → c < w → allows cursor data_columns w xs s c (is_void (get_or xs (s * w + c) Void)) ≡ true) where
   here : (s : ℕ) → s < z → (i : ℕ) → i < w → Back (slot_behind cursor data_columns w s i (take (s * w + i) xs)) (slot_bytes (get_or xs (s * w + i) Void)) (get_or xs (s * w + i) Void)
   here s ls i li =
@@ -212,7 +212,7 @@ upto_within : (stripes : ℕ) (home : ℕ) (o : Option Moving) → IfSome o (λ 
 upto_within stripes home None h = tt
 upto_within stripes home (Some m) h = h.1
 
-table_back : (rack : Rack) (taken : List ℕ) (t : Table) → IsRack rack → FitsTable rack t → AreFree taken (archives_in t) → ((i : ℕ) → i < length t.slots → HasDigest (get_or t.slots i Void)) → Back (table rack taken) (table_bytes t) t
+table_back : (rack : Rack) (taken : List ℕ) (t : Table) → IsRack rack → FitsTable rack t → AreFree taken (archives_in t) → ((i : ℕ) → i < length t.slots → HasSlotDigest (get_or t.slots i Void)) → Back (table rack taken) (table_bytes t) t
 unfolding table table_bytes
 table_back rack taken t rules fits free digests =
     (back_as _ (cursor_bytes t.cursor ++ (flat_map column_bytes t.columns ++ flat_map slot_bytes t.slots)) _ t (sym (append_assoc (cursor_bytes t.cursor) (flat_map column_bytes t.columns) (flat_map slot_bytes t.slots)))

@@ -30,10 +30,10 @@ ReadsFields (wants f next) (x ∷ xs) a = IsField f x × ReadsFields (next x) xs
 
 -- These fields are those that the grammar wants in turn. Behind the last it wants another, which
 -- does not stand at the front of the rest.
-abbrev pub Breaks : {A : Type 0} → Grammar A → List (List ℕ) → List ℕ → Type 0
-Breaks (done b) xs rest = ⊥
-Breaks (wants f next) [] rest = NoField f rest
-Breaks (wants f next) (x ∷ xs) rest = IsField f x × Breaks (next x) xs rest
+abbrev pub BreaksField : {A : Type 0} → Grammar A → List (List ℕ) → List ℕ → Type 0
+BreaksField (done b) xs rest = ⊥
+BreaksField (wants f next) [] rest = NoField f rest
+BreaksField (wants f next) (x ∷ xs) rest = IsField f x × BreaksField (next x) xs rest
 
 abbrev pub joined : List (List ℕ) → List ℕ
 joined [] = []
@@ -50,7 +50,7 @@ pub record BreaksAt {A : Type 0} (g : Grammar A) (bytes : List ℕ) (place : ℕ
   pub fields : List (List ℕ)
   pub rest : List ℕ
   pub spelled : bytes ≡ joined fields ++ rest
-  pub breaks : Breaks g fields rest
+  pub breaks : BreaksField g fields rest
   pub counted : place ≡ length (joined fields)
 
 -- the grammar is done, and bytes are left, the last of them before this place

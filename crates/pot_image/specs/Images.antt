@@ -82,16 +82,16 @@ trailer bytes = drop (length bytes - 32) bytes
 
 -- why the fields were not read: they leave the grammar at a place, which is counted from the front
 -- of the image
-abbrev pub Leaves : Grammar Contents → List ℕ → ImageFault → Type 0
-Leaves g body (faults.Form place) = (p : ℕ) × (place ≡ 16 + p) × LeavesAt g body p
-Leaves g body faults.NoMemory = Unit {0}
-Leaves g body faults.Cut = ⊥
-Leaves g body (faults.Trailer kept computed) = ⊥
+abbrev pub LeavesGrammar : Grammar Contents → List ℕ → ImageFault → Type 0
+LeavesGrammar g body (faults.Form place) = (p : ℕ) × (place ≡ 16 + p) × LeavesAt g body p
+LeavesGrammar g body faults.NoMemory = Unit {0}
+LeavesGrammar g body faults.Cut = ⊥
+LeavesGrammar g body (faults.Trailer kept computed) = ⊥
 
 -- fifth: the fields are those of an image, or leave the grammar somewhere
-abbrev pub Answered : Format → List ℕ → Result Image ImageFault → Type 0
-Answered format body r =
-    MatchResult r (λ i. IsOf (image format) body (contents i)) (Leaves (image format) body)
+abbrev pub AnsweredFields : Format → List ℕ → Result Image ImageFault → Type 0
+AnsweredFields format body r =
+    MatchResult r (λ i. IsOf (image format) body (contents i)) (LeavesGrammar (image format) body)
 
 -- fourth: the last 32 bytes are the digest of all before, or not
 abbrev pub Trailed : Format → List ℕ → Result Image ImageFault → Type 0
@@ -100,7 +100,7 @@ Trailed format bytes r =
     × (r ≡ Err (faults.Trailer (record { bytes = trailer bytes })
     (record { bytes = digest_bytes (before_trailer bytes) }))))
     ⊎ ((trailer bytes ≡ digest_bytes (before_trailer bytes))
-    × Answered format (drop 16 (before_trailer bytes)) r)
+    × AnsweredFields format (drop 16 (before_trailer bytes)) r)
 
 -- third: there are fewer bytes than the image says, or more, or as many
 abbrev pub Measured : Format → List ℕ → Result Image ImageFault → Type 0

@@ -22,7 +22,7 @@ use Rattle.pot_index.specs.declared.entry.IndexEntry.TheVariants.{Reserve, Taken
 use Rattle.pot_index.specs.declared.entry.IndexEntry.TheVariants.{Find, Listed, Renew, Often}
 use Rattle.pot_index.specs.declared.record.Record.{Record}
 use Rattle.pot_index.specs.Records.{splits_of}
-use Rattle.pot_index.specs.Index.{AreRead}
+use Rattle.pot_index.specs.Index.{AreFirstRecords}
 use Rattle.pot_machine.specs.Table.{archives_in}
 use Rattle.pot_image.specs.Images.{Contents}
 use Rattle.pot_image.specs.Spelling.{image_bytes}
@@ -31,11 +31,11 @@ use Rattle.pot_image.specs.Spelling.{image_bytes}
 abbrev pub IsDigest : Digest → Type 0
 IsDigest d = length d.bytes ≡ 32
 
-abbrev pub HasDigest : SlotState → Type 0
-HasDigest Void = Unit {0}
-HasDigest (Live d) = IsDigest d
-HasDigest (Lost d) = IsDigest d
-HasDigest (Broken d) = IsDigest d
+abbrev pub HasSlotDigest : SlotState → Type 0
+HasSlotDigest Void = Unit {0}
+HasSlotDigest (Live d) = IsDigest d
+HasSlotDigest (Lost d) = IsDigest d
+HasSlotDigest (Broken d) = IsDigest d
 
 -- WHAT GROUPS AND AN INDEX BEGIN WITH
 
@@ -73,7 +73,7 @@ pub record IsRecordOver (ts : List Table) (r : Record) : Type 0 where
 
 -- records with which an index over this rack may begin, each of them over these tables
 pub record AreRecords (rack : Rack) (ts : List Table) (rs : List Record) : Type 0 where
-  pub read : AreRead rack rs
+  pub read : AreFirstRecords rack rs
   pub each : All (IsRecordOver ts) rs
 
 -- the parts fit together: a rack within its limits, the tables of its groups, records over them,
@@ -88,15 +88,15 @@ pub record FitsTogether (v : Contents) : Type 0 where
 
 -- the table's slots have whole digests
 abbrev pub HaveDigests : Table → Type 0
-HaveDigests t = All HasDigest t.slots
+HaveDigests t = All HasSlotDigest t.slots
 
 -- a job's number has four bytes
 abbrev pub IsJob : ℕ → Type 0
 IsJob job = job < 2 ^ 32
 
 -- a stripe and a column that the rack has
-abbrev pub IsAt : Rack → ℕ → ℕ → Type 0
-IsAt rack s c = (s < rack.stripes) × (c < rack.columns + rack.parity)
+abbrev pub IsSpotOf : Rack → ℕ → ℕ → Type 0
+IsSpotOf rack s c = (s < rack.stripes) × (c < rack.columns + rack.parity)
 
 -- a column that the rack has, and the number of an archive
 abbrev pub IsMove : Rack → ℕ → ℕ → Type 0
@@ -104,27 +104,27 @@ IsMove rack c to = (c < rack.columns + rack.parity) × (to ≤ 511)
 
 -- what an entry of a group's log names, the rack has
 abbrev pub FitsEntry : Rack → Entry → Type 0
-FitsEntry rack (Put job s c d p kept) = IsJob job × (IsAt rack s c × (IsDigest d × IsDigest p))
+FitsEntry rack (Put job s c d p kept) = IsJob job × (IsSpotOf rack s c × (IsDigest d × IsDigest p))
 FitsEntry rack (Skip job s) = IsJob job × (s < rack.stripes)
-FitsEntry rack (Seen job s c) = IsJob job × IsAt rack s c
-FitsEntry rack (Gone job s c) = IsJob job × IsAt rack s c
-FitsEntry rack (Broke job s c) = IsJob job × IsAt rack s c
-FitsEntry rack (Fault job s c) = IsJob job × IsAt rack s c
-FitsEntry rack (Begin job s c) = IsJob job × IsAt rack s c
-FitsEntry rack (Hop job s c) = IsJob job × IsAt rack s c
-FitsEntry rack (Mended job s c) = IsJob job × IsAt rack s c
+FitsEntry rack (Seen job s c) = IsJob job × IsSpotOf rack s c
+FitsEntry rack (Gone job s c) = IsJob job × IsSpotOf rack s c
+FitsEntry rack (Broke job s c) = IsJob job × IsSpotOf rack s c
+FitsEntry rack (Fault job s c) = IsJob job × IsSpotOf rack s c
+FitsEntry rack (Begin job s c) = IsJob job × IsSpotOf rack s c
+FitsEntry rack (Hop job s c) = IsJob job × IsSpotOf rack s c
+FitsEntry rack (Mended job s c) = IsJob job × IsSpotOf rack s c
 FitsEntry rack (GaveUp job s c other) =
-    IsJob job × (IsAt rack s c × (other < rack.columns + rack.parity))
-FitsEntry rack (Oddly job s c found) = IsJob job × (IsAt rack s c × IsDigest found)
+    IsJob job × (IsSpotOf rack s c × (other < rack.columns + rack.parity))
+FitsEntry rack (Oddly job s c found) = IsJob job × (IsSpotOf rack s c × IsDigest found)
 FitsEntry rack (Stuck job s c other) =
-    IsJob job × (IsAt rack s c × (other < rack.columns + rack.parity))
+    IsJob job × (IsSpotOf rack s c × (other < rack.columns + rack.parity))
 FitsEntry rack (MoveBegin job c to) = IsJob job × IsMove rack c to
-FitsEntry rack (Moved job s c copied) = IsJob job × IsAt rack s c
+FitsEntry rack (Moved job s c copied) = IsJob job × IsSpotOf rack s c
 FitsEntry rack (MoveEnd job c) = IsJob job × (c < rack.columns + rack.parity)
 FitsEntry rack (Swapped job c to) = IsJob job × IsMove rack c to
 FitsEntry rack (Counted job) = IsJob job
 FitsEntry rack (Put2 job s c d p q kept kept2) =
-    IsJob job × (IsAt rack s c × (IsDigest d × (IsDigest p × IsDigest q)))
+    IsJob job × (IsSpotOf rack s c × (IsDigest d × (IsDigest p × IsDigest q)))
 
 -- an entry of the index's log is of a name, and its mark is whole
 abbrev pub FitsIndexEntry : IndexEntry → Type 0
@@ -175,7 +175,7 @@ pub record HasValues (v : Contents) : Type 0 where
 
 -- So it is, and the bytes are fewer than 2^64. This holds of each image that was written, whatever
 -- else it holds.
-pub record IsWhole (v : Contents) : Type 0 where
+pub record IsImageWhole (v : Contents) : Type 0 where
   pub values : HasValues v
   pub short : length (image_bytes v) < 2 ^ 64
 

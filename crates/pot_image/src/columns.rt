@@ -64,7 +64,8 @@ fn read_resting(bytes: &[u8], home: u32) -> Result<(Column, &[u8]), Fault>
     Ok((Column { home, moving: None }, upto))
 }
 
-/// Where a column moves to, and how far it has come. Its target is added to the numbers that are taken.
+/// Where a column moves to, and how far it has come. Its target is added to the numbers that are
+/// taken.
 fn read_moving<'a>(
     bytes: &'a [u8],
     stripes: u32,

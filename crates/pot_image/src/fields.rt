@@ -1,4 +1,5 @@
-//! The fields at the front of some bytes. Each reader gives what the field says and the bytes behind it.
+//! The fields at the front of some bytes. Each reader gives what the field says and the bytes
+//! behind it.
 ghost use Rattle.std.specs.Prelude.{◌≡◌, ◌==◌};
 ghost use Rattle.pot_image.specs.Following.{Gives};
 ghost use Rattle.pot_image.specs.Reading.{reading};

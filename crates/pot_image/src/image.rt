@@ -26,7 +26,8 @@ pub struct Image {
 const COUNTS: usize = 0x1_0000_0000;
 
 impl Image {
-    /// Whether there are fewer than 2^32 records, and as few entries in each log: their numbers have four bytes.
+    /// Whether there are fewer than 2^32 records, and as few entries in each log: their numbers
+    /// have four bytes.
     pub fn is_countable(&self) -> bool
         ensures { IsTrue result ↔ IsCountable self.now }
     {

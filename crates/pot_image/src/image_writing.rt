@@ -7,7 +7,7 @@ ghost use Rattle.pot_image.specs.Images.{contents};
 ghost use Rattle.pot_image.specs.Spelling.{table_bytes, entry_bytes, index_entry_bytes};
 ghost use Rattle.pot_image.specs.Spelling.{counted_bytes, field_bytes, text_bytes, image_bytes};
 ghost use Rattle.pot_image.specs.Spelling.{IsCountable};
-ghost use Rattle.pot_image.specs.Rules.{FitsIndexEntry, HasValues, HaveDigests, IsWhole};
+ghost use Rattle.pot_image.specs.Rules.{FitsIndexEntry, HasValues, HaveDigests, IsImageWhole};
 ghost use Rattle.pot_image.specs.Rules.{IsWholeEntry, IsWholeRecord};
 
 use crate::entry_writing::append_entry;
@@ -152,17 +152,18 @@ fn append_text(out: &mut Vec<u8>, image: &Image) -> Result<(), NoMemory>
 
 /// The bytes of an image, of the second format. The relays of its tables are not written.
 ///
-/// Every image may be written that has fewer than 2^32 records and fewer than 2^32 entries in each log, as `Image::is_countable`
-/// tests: so each whose records are those of an index and whose logs are those of groups and of an index, with at most
-/// 4,000,000,000 records and 262,144 entries. Nothing is asked of what stands in them. What was written is read back where it
-/// keeps the rules of an image (`image_laws`).
+/// Every image may be written that has fewer than 2^32 records and fewer than 2^32 entries in each
+/// log, as `Image::is_countable` tests: so each whose records are those of an index and whose logs
+/// are those of groups and of an index, with at most 4,000,000,000 records and 262,144 entries.
+/// Nothing is asked of what stands in them. What was written is read back where it keeps the rules
+/// of an image (`image_laws`).
 ///
 /// # Errors
 /// Want of memory alone.
 pub fn write_image(alloc: Global, image: &Image) -> Result<Vec<u8>, NoMemory>
     requires { IsCountable image.now }
     ensures bytes { IfOk result (λ v. v.items ≡ image_bytes (contents image.now)) }
-    ensures whole { OnOk result (IsWhole (contents image.now)) }
+    ensures whole { OnOk result (IsImageWhole (contents image.now)) }
 {
     let mut out = Vec::with_capacity(alloc, room(image))?;
     append_text(&mut out, image)?;

@@ -64,7 +64,8 @@ fn stamp(rack: &Rack, stamps: &mut [u64], last: u64, place: Place) -> bool
     apart
 }
 
-/// The place of a block, whose slot is not Void and which does not have the stamp of the split yet. It gets it.
+/// The place of a block, whose slot is not Void and which does not have the stamp of the split yet.
+/// It gets it.
 fn read_place<'a>(
     bytes: &'a [u8],
     rack: &Rack,
@@ -103,7 +104,8 @@ fn read_place<'a>(
     Ok((place, rest))
 }
 
-/// The places of a file of so many pieces that is split so. They get the stamp of the split, which no place has yet.
+/// The places of a file of so many pieces that is split so. They get the stamp of the split, which
+/// no place has yet.
 pub(crate) fn read_places<'a>(
     alloc: Global,
     bytes: &'a [u8],

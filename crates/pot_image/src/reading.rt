@@ -4,7 +4,8 @@ ghost use Rattle.pot_image.specs.declared.fault.ImageFault.TheVariants.{Form};
 ghost use Rattle.pot_image.specs.Following.{Gives};
 ghost use Rattle.pot_image.specs.Reading.{reading};
 ghost use Rattle.pot_image.specs.Images.{Contents, contents, image, magic, trailer, before_trailer};
-ghost use Rattle.pot_image.specs.Images.{stated_length, Answered, Trailed, Measured, Numbered};
+ghost use Rattle.pot_image.specs.Images.{stated_length, AnsweredFields, Trailed, Measured};
+ghost use Rattle.pot_image.specs.Images.{Numbered};
 ghost use Rattle.pot_image.specs.Images.{AnswersImage};
 ghost use Rattle.pot_image.specs.Rules.{FitsTogether};
 
@@ -57,7 +58,7 @@ fn form(body: &[u8], left: usize) -> ImageFault
 
 /// The image whose fields these are, all of the bytes.
 fn read_answered(alloc: Global, body: &[u8], format: Format) -> Result<Image, ImageFault>
-    ensures { Answered format body.now result }
+    ensures { AnsweredFields format body.now result }
 {
     match read_fields(alloc, body, format) {
         Ok((image, rest)) => {
@@ -126,17 +127,20 @@ fn is_marked(bytes: &[u8]) -> bool
 
 /// The image of these bytes. Where they are none, it is answered why.
 ///
-/// The parts of an image that was read fit together, so that groups and an index can begin with them: its rack is within its
-/// limits, each group has a table of the rack that keeps the rules of a table and has no relay, all homes and targets are
-/// distinct and at most 511, the records are those with which an index over the rack may begin, none of their places has a
-/// slot that is Void, and each group has a log.
+/// The parts of an image that was read fit together, so that groups and an index can begin with
+/// them: its rack is within its limits, each group has a table of the rack that keeps the rules of
+/// a table and has no relay, all homes and targets are distinct and at most 511, the records are
+/// those with which an index over the rack may begin, none of their places has a slot that is Void,
+/// and each group has a log.
 ///
 /// # Errors
-/// In this order: `Cut` where there are fewer than 48 bytes; `Form` with place 0 where the first four are not `PSI1`,
-/// and with place 4 where the number behind them is not 1 or 2; `Cut` where there are fewer bytes than the number behind
-/// that says, and `Form` with place 8 where there are more; `Trailer` where the last 32 bytes are not the digest of all
-/// before; `Form` with the place of the first field that breaks its rule or does not end before the trailer, or with the
-/// trailer's place where bytes are left before it. `NoMemory` may come in place of an image, and of the last of these.
+/// In this order: `Cut` where there are fewer than 48 bytes; `Form` with place 0 where the first
+/// four are not `PSI1`, and with place 4 where the number behind them is not 1 or 2; `Cut` where
+/// there are fewer bytes than the number behind that says, and `Form` with place 8 where there are
+/// more; `Trailer` where the last 32 bytes are not the digest of all before; `Form` with the place
+/// of the first field that breaks its rule or does not end before the trailer, or with the
+/// trailer's place where bytes are left before it. `NoMemory` may come in place of an image, and of
+/// the last of these.
 pub fn read_image(alloc: Global, bytes: &[u8]) -> Result<Image, ImageFault>
     ensures answers { AnswersImage bytes.now result }
     ensures kept { IfOk result (λ i. FitsTogether (contents i)) }

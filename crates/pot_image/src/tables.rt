@@ -14,7 +14,8 @@ use pot_bytes::Rack;
 use pot_machine::{Cursor, GroupTable};
 use std::alloc::Global;
 
-/// Whether a cursor may be at this data column of this stripe, which may be the one behind the last.
+/// Whether a cursor may be at this data column of this stripe, which may be the one behind the
+/// last.
 fn is_cursor(rack: &Rack, stripe: u32, column: u8) -> bool
     ensures { result ≡ is_cursor rack.now stripe column }
 {

@@ -4,7 +4,7 @@ ghost use Rattle.pot_machine.specs.Table.{width};
 ghost use Rattle.byteorder.specs.Endian.{big_bytes};
 ghost use Rattle.pot_image.specs.Spelling.{flag_bytes, head_bytes, cursor_bytes, move_bytes};
 ghost use Rattle.pot_image.specs.Spelling.{column_bytes, slot_bytes, table_bytes, place_bytes};
-ghost use Rattle.pot_image.specs.Rules.{HasDigest, HaveDigests, IsDigest};
+ghost use Rattle.pot_image.specs.Rules.{HasSlotDigest, HaveDigests, IsDigest};
 
 use pot_bytes::{Digest, Rack};
 use pot_machine::{Column, Cursor, GroupTable, SlotState};
@@ -110,7 +110,7 @@ fn append_columns(out: &mut Vec<u8>, columns: &[Column]) -> Result<(), AllocErro
 /// A slot.
 fn append_slot(out: &mut Vec<u8>, slot: SlotState) -> Result<(), AllocError>
     ensures bytes { OnOk result (out.new.items ≡ out.old.items ++ slot_bytes slot) }
-    ensures whole { OnOk result (HasDigest slot) }
+    ensures whole { OnOk result (HasSlotDigest slot) }
 {
     match slot {
         SlotState::Void => { out.extend_from_slice(&[0]) }
@@ -138,7 +138,8 @@ fn append_stripe(out: &mut Vec<u8>, table: &GroupTable, stripe: u32) -> Result<(
         ++ flat_map slot_bytes
         (take (width table.now) (drop (stripe * width table.now) table.now.slots))) }
     ensures whole { OnOk result
-        (All HasDigest (take (width table.now) (drop (stripe * width table.now) table.now.slots))) }
+        (All HasSlotDigest (take (width table.now) (drop (stripe * width table.now)
+        table.now.slots))) }
 {
     for column in 0..table.data_columns() + table.parity() {
         append_slot(out, table.slot(stripe, column))?;

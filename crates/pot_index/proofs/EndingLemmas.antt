@@ -5,7 +5,7 @@ use Rattle.std.proofs.lemmas.List.{take_more, take_all}
 use Rattle.std.proofs.lemmas.List.Elements.{All-push, All-nil}
 use Rattle.pot_index.specs.declared.entry.IndexEntry.{IndexEntry}
 use Rattle.pot_index.specs.Entries.{IsReserving, IsEnding}
-use Rattle.pot_index.specs.Ending.{EndsAt, IsHeld, Steps}
+use Rattle.pot_index.specs.Ending.{EndsAt, IsNameHeld, StepsEnd}
 
 module _ (job : ℕ) (name : List ℕ) where
   abbrev NotReserving : IndexEntry → Type 0
@@ -16,13 +16,13 @@ module _ (job : ℕ) (name : List ℕ) where
 
   -- what a front of a log says of the end: nothing, where the job has not reserved the name in it
   abbrev pub SoFar : List IndexEntry → Option ℕ → Type 0
-  SoFar es None = All (λ e. IsReserving job name e → ⊥) es ⊎ IsHeld job name es
+  SoFar es None = All (λ e. IsReserving job name e → ⊥) es ⊎ IsNameHeld job name es
   SoFar es (Some at) = All (λ e. IsReserving job name e → ⊥) es ⊎ EndsAt job name es at
 
-  made_here : (es : List IndexEntry) (e : IndexEntry) → IsReserving job name e → IsHeld job name (es ++ e ∷ [])
+  made_here : (es : List IndexEntry) (e : IndexEntry) → IsReserving job name e → IsNameHeld job name (es ++ e ∷ [])
   made_here es e makes = record { before = es; made = e; behind = []; parts = refl; makes = makes; kept = All-nil NotEnding; last = All-nil NotReserving }
 
-  held_more : (es : List IndexEntry) (e : IndexEntry) → NotReserving e → NotEnding e → IsHeld job name es → IsHeld job name (es ++ e ∷ [])
+  held_more : (es : List IndexEntry) (e : IndexEntry) → NotReserving e → NotEnding e → IsNameHeld job name es → IsNameHeld job name (es ++ e ∷ [])
   held_more es e quiet kept h = record {
     before = h.before;
     made = h.made;
@@ -33,7 +33,7 @@ module _ (job : ℕ) (name : List ℕ) where
     last = All-push NotReserving h.behind e h.last quiet;
   }
 
-  ends_here : (es : List IndexEntry) (e : IndexEntry) → NotReserving e → IsEnding job name e → IsHeld job name es → EndsAt job name (es ++ e ∷ []) (length es)
+  ends_here : (es : List IndexEntry) (e : IndexEntry) → NotReserving e → IsEnding job name e → IsNameHeld job name es → EndsAt job name (es ++ e ∷ []) (length es)
   ends_here es e quiet ends h = record {
     before = h.before;
     made = h.made;
@@ -75,25 +75,25 @@ module _ (job : ℕ) (name : List ℕ) where
   ends_now es e quiet ends (inl none) = inl (All-push NotReserving es e none quiet)
   ends_now es e quiet ends (inr held) = inr (ends_here es e quiet ends held)
 
-  one_more : (es : List IndexEntry) (e : IndexEntry) (ended result : Option ℕ) → SoFar es ended → Steps job name e (length es) ended result → SoFar (es ++ e ∷ []) result
+  one_more : (es : List IndexEntry) (e : IndexEntry) (ended result : Option ℕ) → SoFar es ended → StepsEnd job name e (length es) ended result → SoFar (es ++ e ∷ []) result
   one_more es e ended result h (inl (makes, is)) = subst (SoFar (es ++ e ∷ [])) (sym is) (inr (made_here es e makes))
   one_more es e ended result h (inr (inl (quiet, ends, none, is))) = subst (SoFar (es ++ e ∷ [])) (sym is) (ends_now es e quiet ends (subst (SoFar es) none h))
   one_more es e ended result h (inr (inr (quiet, kept, is))) = subst (SoFar (es ++ e ∷ [])) (sym is) (stays es e ended quiet kept h)
 
   -- a step of the loop over a log
-  pub loop_step : (log : List IndexEntry) (i : ℕ) (d : IndexEntry) (ended result : Option ℕ) → i < length log → SoFar (take i log) ended → Steps job name (get_or log i d) i ended result → SoFar (take (i + 1) log) result
+  pub loop_step : (log : List IndexEntry) (i : ℕ) (d : IndexEntry) (ended result : Option ℕ) → i < length log → SoFar (take i log) ended → StepsEnd job name (get_or log i d) i ended result → SoFar (take (i + 1) log) result
   loop_step log i d ended result lt h step =
       subst (λ es. SoFar es result) (sym (take_more log i d lt))
-      (one_more (take i log) (get_or log i d) ended result h (subst (λ k. Steps job name (get_or log i d) k ended result) (sym (length-take-le i log (omega arith))) step))
+      (one_more (take i log) (get_or log i d) ended result h (subst (λ k. StepsEnd job name (get_or log i d) k ended result) (sym (length-take-le i log (omega arith))) step))
 
   -- and its end, where the job has reserved the name
-  pub at_end : (log : List IndexEntry) (i : ℕ) (ended : Option ℕ) → length log ≤ i → Any (IsReserving job name) log → SoFar (take i log) ended → MatchOption ended (IsHeld job name log) (EndsAt job name log)
+  pub at_end : (log : List IndexEntry) (i : ℕ) (ended : Option ℕ) → length log ≤ i → Any (IsReserving job name) log → SoFar (take i log) ended → MatchOption ended (IsNameHeld job name log) (EndsAt job name log)
   at_end log i ended le made h = by ended (subst (λ es. SoFar es ended) (take_all i log le) h)
     where
       contradicts : All (λ e. IsReserving job name e → ⊥) log → ⊥
       contradicts none = none made.0 made.1 made.2 (subst (IsReserving job name) (sym made.3) made.4)
 
-      by : (o : Option ℕ) → SoFar log o → MatchOption o (IsHeld job name log) (EndsAt job name log)
+      by : (o : Option ℕ) → SoFar log o → MatchOption o (IsNameHeld job name log) (EndsAt job name log)
       by None (inl none) = absurd (contradicts none)
       by None (inr held) = held
       by (Some at) (inl none) = absurd (contradicts none)

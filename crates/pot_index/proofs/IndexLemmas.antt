@@ -13,17 +13,17 @@ use Rattle.pot_index.specs.declared.entry.Logged.{Logged}
 use Rattle.pot_index.specs.declared.record.Record.{Record}
 use Rattle.pot_index.specs.declared.record.Split.{Split}
 use Rattle.pot_index.specs.declared.reservation.Reservation.{Reservation}
-use Rattle.pot_index.specs.Ending.{IsHeld, EndsAt}
-use Rattle.pot_index.specs.Entries.{IsReserving, IsQuiet, plain, bringing, entries}
+use Rattle.pot_index.specs.Ending.{IsNameHeld, EndsAt}
+use Rattle.pot_index.specs.Entries.{IsReserving, ChangesNoName, plain, bringing, entries}
 use Rattle.pot_index.specs.Records.{current_of, splits_of, renewed, mark_of}
 use Rattle.pot_index.specs.Fits.{FitsRack, FitsSplit}
-use Rattle.pot_index.specs.Index.{Names, IndexView, IsIndex, AreRead, AreNames, IsPublished, IsReserved, IsReservedBy, IsRecordOf, IsTaken, IsFree, Legal, LegalEntry, owed, started, logged, names_read}
-use Rattle.pot_index.specs.Searches.{StandsAt, BelongsAt}
+use Rattle.pot_index.specs.Index.{Names, IndexView, IsIndex, AreFirstRecords, AreNames, IsPublished, IsReserved, IsReservedBy, IsRecordOf, IsNameTaken, IsFree, LegalLogged, LegalEntry, owed, started, logged, names_read}
+use Rattle.pot_index.specs.Searches.{RecordStandsAt, BelongsAt}
 use Rattle.pot_index.specs.declared.fault.FindFault.{FindFault}
 use Rattle.pot_index.specs.declared.fault.FindFault.TheVariants as find_fault
 use Rattle.pot_index.specs.declared.fault.RenewFault.{RenewFault}
 use Rattle.pot_index.specs.declared.fault.RenewFault.TheVariants as renew_fault
-use Rattle.pot_index.specs.Calls.{HasRoom, IsFull, Finds, Renews}
+use Rattle.pot_index.specs.Calls.{HasRoom, IsFullIndex, Finds, Renews}
 use Rattle.pot_index.proofs.ListLemmas.{quiet_stays}
 use Rattle.pot_index.proofs.NameLemmas.{contains_map, from_map}
 use Rattle.pot_index.proofs.LogLaws.{reserved_stays, ended_stays}
@@ -31,7 +31,7 @@ use Rattle.pot_index.proofs.NamesKept.{after_keeps, goes_on}
 use Rattle.pot_index.proofs.RecordLaws.{one_record, mine_there}
 use Rattle.pot_index.proofs.RecordLemmas.{stands_published, belongs_unpublished}
 
-pub started_is : (rack : Rack) (rs : List Record) → IsRack rack → AreRead rack rs → IsIndex (started rack rs)
+pub started_is : (rack : Rack) (rs : List Record) → IsRack rack → AreFirstRecords rack rs → IsIndex (started rack rs)
 unfolding IsDistinct
 started_is rack rs r a = record {
   rack = r;
@@ -41,7 +41,7 @@ started_is rack rs r a = record {
   room = omega arith;
 }
 
-pub logged_is : (s : IndexView) (x : Logged) → IsIndex s → Legal s.rack s.now x → owed (logged s x) ≤ log_bound → IsIndex (logged s x)
+pub logged_is : (s : IndexView) (x : Logged) → IsIndex s → LegalLogged s.rack s.now x → owed (logged s x) ≤ log_bound → IsIndex (logged s x)
 logged_is s x i legal room = record {
   rack = i.rack;
   read = i.read;
@@ -51,7 +51,7 @@ logged_is s x i legal room = record {
 }
 
 -- an entry that changes no name
-pub entered_is : (s t : IndexView) (e : IndexEntry) → IsIndex s → t ≡ logged s (plain e) → IsQuiet e → LegalEntry s.rack s.now e None → HasRoom 1 s → IsIndex t
+pub entered_is : (s t : IndexView) (e : IndexEntry) → IsIndex s → t ≡ logged s (plain e) → ChangesNoName e → LegalEntry s.rack s.now e None → HasRoom 1 s → IsIndex t
 entered_is s t e i is quiet legal room =
     subst IsIndex (sym is)
     (logged_is s (plain e) i legal (omega (arith, room, length_push s.log (plain e), ap (λ (n : Names). length n.reserved) (quiet_stays s.now e quiet))))
@@ -78,10 +78,10 @@ room_for_one s job name i mine = omega (arith, i.room, mine_there s.now job name
 
 -- TAKEN NAMES
 
-pub taken_tells : (n : Names) (name : List ℕ) (found : Result ℕ ℕ) (b : Bool) → (IsReserved n name → ⊥) → MatchResult found (StandsAt n.published name) (BelongsAt n.published name) → b ≡ is_ok found
-    → MatchBool b (IsTaken n name) (IsFree n name)
-taken_tells n name (Ok at) b none h is = subst (λ t. MatchBool t (IsTaken n name) (IsFree n name)) (sym is) (inl (stands_published n.published name at h))
-taken_tells n name (Err at) b none h is = subst (λ t. MatchBool t (IsTaken n name) (IsFree n name)) (sym is) (belongs_unpublished n.published name at h, none)
+pub taken_tells : (n : Names) (name : List ℕ) (found : Result ℕ ℕ) (b : Bool) → (IsReserved n name → ⊥) → MatchResult found (RecordStandsAt n.published name) (BelongsAt n.published name) → b ≡ is_ok found
+    → MatchBool b (IsNameTaken n name) (IsFree n name)
+taken_tells n name (Ok at) b none h is = subst (λ t. MatchBool t (IsNameTaken n name) (IsFree n name)) (sym is) (inl (stands_published n.published name at h))
+taken_tells n name (Err at) b none h is = subst (λ t. MatchBool t (IsNameTaken n name) (IsFree n name)) (sym is) (belongs_unpublished n.published name at h, none)
 
 -- RENEWING
 
@@ -92,7 +92,7 @@ fits_more rack r split fits few next = record {
   splits = All-push (FitsSplit rack (pieces_of r.length)) (splits_of r) split fits.splits next;
 }
 
-module _ (s : IndexView) (name : List ℕ) (at : ℕ) (place : StandsAt s.now.published name at) where
+module _ (s : IndexView) (name : List ℕ) (at : ℕ) (place : RecordStandsAt s.now.published name at) where
   pub some_record : Record
   some_record = (from_map (λ r. r.name) name s.now.published (stands_published s.now.published name at place)).0
 
@@ -135,7 +135,7 @@ module _ (s : IndexView) (name : List ℕ) (at : ℕ) (place : StandsAt s.now.pu
       subst IsIndex (sym (now_is some_record))
       (logged_is s entry i (refl, fitting, (stood, (stood_is.0, refl), refl)) (omega (arith, room, length_push s.log entry)))
 
-pub full_row : (s t : IndexView) (name : List ℕ) (job : ℕ) (split : Split) → (r : Record) × IsRecordOf s.now name r × FitsSplit s.rack (pieces_of r.length) split → IsFull 1 s t → Renews job name split s t (Err renew_fault.LogFull)
+pub full_row : (s t : IndexView) (name : List ℕ) (job : ℕ) (split : Split) → (r : Record) × IsRecordOf s.now name r × FitsSplit s.rack (pieces_of r.length) split → IsFullIndex 1 s t → Renews job name split s t (Err renew_fault.LogFull)
 full_row s t name job split h full = (h.0, h.1, full)
 
 -- a record of the name is published
@@ -165,7 +165,7 @@ all_behind P (x ∷ xs) ys h = all_behind P xs ys (All-tail P x (xs ++ ys) h)
 read_names : (s : IndexView) → IsIndex s → AreNames s.rack (names_read s.read)
 read_names s i = (started_is s.rack s.read i.rack i.read).names
 
-pub ended_tells : (s : IndexView) (job : ℕ) (name : List ℕ) (ended : Option ℕ) → IsIndex s → MatchOption ended (IsHeld job name (entries s.log)) (EndsAt job name (entries s.log))
+pub ended_tells : (s : IndexView) (job : ℕ) (name : List ℕ) (ended : Option ℕ) → IsIndex s → MatchOption ended (IsNameHeld job name (entries s.log)) (EndsAt job name (entries s.log))
     → MatchOption ended (IsReservedBy s.now job name) (λ _. IsReservedBy s.now job name → ⊥)
 ended_tells s job name None i h =
     reserved_stays s.rack (names_read s.read) s.now s.log job name h.before h.made h.behind (read_names s i) i.replays h.parts h.makes h.kept

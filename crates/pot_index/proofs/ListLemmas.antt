@@ -12,7 +12,7 @@ use Rattle.pot_index.specs.declared.entry.IndexEntry.TheVariants.{Taken, Find, L
 use Rattle.pot_index.specs.declared.entry.Logged.{Logged}
 use Rattle.pot_index.specs.declared.record.Record.{Record}
 use Rattle.pot_index.specs.declared.reservation.Reservation.{Reservation}
-use Rattle.pot_index.specs.Entries.{IsQuiet, brings, plain, bringing, with_brought}
+use Rattle.pot_index.specs.Entries.{ChangesNoName, brings, plain, bringing, with_brought}
 use Rattle.pot_index.specs.Room.{HasAllRoom, values}
 use Rattle.pot_index.specs.Index.{Names, IndexView, after_entry, logged}
 
@@ -119,14 +119,14 @@ went_on_with v rack read records records' reserved reserved' es rs e r is brough
     subst (λ (w : IndexView). plain_view rack read records' reserved' (es ++ e ∷ []) (rs ++ r ∷ []) ≡ logged w (bringing e r)) is
     (λ i. record { rack = rack; read = read; now = now_is i; log = push_bringing es rs e r brought few i })
 
-pub quiet_brings : (e : IndexEntry) → IsQuiet e → brings e ≡ false
+pub quiet_brings : (e : IndexEntry) → ChangesNoName e → brings e ≡ false
 quiet_brings (Taken job name) q = refl
 quiet_brings (Find job name found) q = refl
 quiet_brings (Listed job) q = refl
 quiet_brings (Often job name) q = refl
 quiet_brings _ q = absurd q
 
-pub quiet_stays : (n : Names) (e : IndexEntry) → IsQuiet e → n ≡ after_entry n e None
+pub quiet_stays : (n : Names) (e : IndexEntry) → ChangesNoName e → n ≡ after_entry n e None
 quiet_stays n (Taken job name) q = refl
 quiet_stays n (Find job name found) q = refl
 quiet_stays n (Listed job) q = refl

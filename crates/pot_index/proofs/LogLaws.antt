@@ -10,7 +10,7 @@ use Rattle.pot_index.specs.declared.entry.Logged.{Logged}
 use Rattle.pot_index.specs.declared.record.Record.{Record}
 use Rattle.pot_index.specs.declared.reservation.Reservation.{Reservation}
 use Rattle.pot_index.specs.Entries.{IsReserving, IsEnding, entries}
-use Rattle.pot_index.specs.Index.{Names, IsReservedBy, AreNames, LegalEntry, Replays, after, after_entry, same_name, without}
+use Rattle.pot_index.specs.Index.{Names, IsReservedBy, AreNames, LegalEntry, ReplaysIndex, after, after_entry, same_name, without}
 use Rattle.pot_index.proofs.NameLemmas.{names_of, same_true, same_false, contains_map, one_reservation, without_keeps, without_from, without_gone}
 use Rattle.pot_index.proofs.NamesKept.{after_keeps}
 
@@ -75,20 +75,20 @@ rest_is e f es fs h = (cc)
 pub first_is : (e f : IndexEntry) (es fs : List IndexEntry) → e ∷ es ≡ f ∷ fs → e ≡ f
 first_is e f es fs h = (cc)
 
-held_on : (rack : Rack) (n m : Names) (log : List Logged) (job : ℕ) (name : List ℕ) → AreNames rack n → Replays rack n log m → IsReservedBy n job name → All (λ e. IsEnding job name e → ⊥) (entries log) → IsReservedBy m job name
+held_on : (rack : Rack) (n m : Names) (log : List Logged) (job : ℕ) (name : List ℕ) → AreNames rack n → ReplaysIndex rack n log m → IsReservedBy n job name → All (λ e. IsEnding job name e → ⊥) (entries log) → IsReservedBy m job name
 held_on rack n m [] job name a h mine kept = subst (λ (k : Names). IsReservedBy k job name) (sym h) mine
 held_on rack n m (x ∷ log) job name a (legal, rest) mine kept =
     held_on rack (after n x) m log job name (after_keeps rack n x a legal) rest
     (held_step rack n job name x.entry x.brought a legal mine (All-head (λ e. IsEnding job name e → ⊥) x.entry (entries log) kept)) (All-tail (λ e. IsEnding job name e → ⊥) x.entry (entries log) kept)
 
-gone_on : (rack : Rack) (n m : Names) (log : List Logged) (job : ℕ) (name : List ℕ) → Replays rack n log m → (IsReservedBy n job name → ⊥) → All (λ e. IsReserving job name e → ⊥) (entries log) → IsReservedBy m job name → ⊥
+gone_on : (rack : Rack) (n m : Names) (log : List Logged) (job : ℕ) (name : List ℕ) → ReplaysIndex rack n log m → (IsReservedBy n job name → ⊥) → All (λ e. IsReserving job name e → ⊥) (entries log) → IsReservedBy m job name → ⊥
 gone_on rack n m [] job name h gone quiet mine = gone (subst (λ (k : Names). IsReservedBy k job name) h mine)
 gone_on rack n m (x ∷ log) job name (legal, rest) gone quiet mine =
     gone_on rack (after n x) m log job name rest
     (λ k. gone_step rack n job name x.entry x.brought legal gone (All-head (λ e. IsReserving job name e → ⊥) x.entry (entries log) quiet) k) (All-tail (λ e. IsReserving job name e → ⊥) x.entry (entries log) quiet) mine
 
 pub reserved_stays : (rack : Rack) (n m : Names) (log : List Logged) (job : ℕ) (name : List ℕ) (before : List IndexEntry) (made : IndexEntry) (behind : List IndexEntry)
-    → AreNames rack n → Replays rack n log m → entries log ≡ before ++ made ∷ behind → IsReserving job name made → All (λ e. IsEnding job name e → ⊥) behind → IsReservedBy m job name
+    → AreNames rack n → ReplaysIndex rack n log m → entries log ≡ before ++ made ∷ behind → IsReserving job name made → All (λ e. IsEnding job name e → ⊥) behind → IsReservedBy m job name
 reserved_stays rack n m [] job name [] made behind a h is makes kept = absurd (cc)
 reserved_stays rack n m [] job name (b ∷ before) made behind a h is makes kept = absurd (cc)
 reserved_stays rack n m (x ∷ log) job name [] made behind a (legal, rest) is makes kept =
@@ -99,7 +99,7 @@ reserved_stays rack n m (x ∷ log) job name (b ∷ before) made behind a (legal
     reserved_stays rack (after n x) m log job name before made behind (after_keeps rack n x a legal) rest (rest_is x.entry b (entries log) (before ++ made ∷ behind) is) makes kept
 
 pub ended_stays : (rack : Rack) (n m : Names) (log : List Logged) (job : ℕ) (name : List ℕ) (before : List IndexEntry) (ended : IndexEntry) (behind : List IndexEntry)
-    → AreNames rack n → Replays rack n log m → entries log ≡ before ++ ended ∷ behind → IsEnding job name ended → All (λ e. IsReserving job name e → ⊥) behind → IsReservedBy m job name → ⊥
+    → AreNames rack n → ReplaysIndex rack n log m → entries log ≡ before ++ ended ∷ behind → IsEnding job name ended → All (λ e. IsReserving job name e → ⊥) behind → IsReservedBy m job name → ⊥
 ended_stays rack n m [] job name [] ended behind a h is ends quiet mine = absurd (cc)
 ended_stays rack n m [] job name (b ∷ before) ended behind a h is ends quiet mine = absurd (cc)
 ended_stays rack n m (x ∷ log) job name [] ended behind a (legal, rest) is ends quiet mine =

@@ -17,7 +17,7 @@ use Rattle.pot_index.specs.declared.entry.Logged.{Logged}
 use Rattle.pot_index.specs.declared.record.Record.{Record}
 use Rattle.pot_index.specs.declared.reservation.Reservation.{Reservation}
 use Rattle.pot_index.specs.Fits.{FitsRack}
-use Rattle.pot_index.specs.Index.{Names, IsPublished, IsReservedBy, IsFree, AreNames, Legal, LegalEntry, Replays, after, after_entry, same_name, inserted, replaced, without}
+use Rattle.pot_index.specs.Index.{Names, IsPublished, IsReservedBy, IsFree, AreNames, LegalLogged, LegalEntry, ReplaysIndex, after, after_entry, same_name, inserted, replaced, without}
 use Rattle.pot_index.proofs.NameLemmas.{names_of, same_true, contains_map, from_map, contains_here, all_from_members, without_from, without_distinct, without_gone}
 use Rattle.pot_index.proofs.RecordLemmas.{record_names, inserted_from, inserted_ascends, record_names-replaced, replaced_from}
 
@@ -109,23 +109,23 @@ entry_keeps rack n (Renew job name mark) (Some r) a (marked, fits, old) = replac
 entry_keeps rack n (Often job name) None a legal = a
 entry_keeps rack n _ _ a legal = absurd legal
 
-pub after_keeps : (rack : Rack) (n : Names) (x : Logged) → AreNames rack n → Legal rack n x → AreNames rack (after n x)
+pub after_keeps : (rack : Rack) (n : Names) (x : Logged) → AreNames rack n → LegalLogged rack n x → AreNames rack (after n x)
 after_keeps rack n x a legal = entry_keeps rack n x.entry x.brought a legal
 
 -- WHOLE LOGS
 
-pub replay_keeps : (rack : Rack) (n m : Names) (log : List Logged) → AreNames rack n → Replays rack n log m → AreNames rack m
+pub replay_keeps : (rack : Rack) (n m : Names) (log : List Logged) → AreNames rack n → ReplaysIndex rack n log m → AreNames rack m
 replay_keeps rack n m [] a h = subst (AreNames rack) (sym h) a
 replay_keeps rack n m (x ∷ log) a (legal, rest) = replay_keeps rack (after n x) m log (after_keeps rack n x a legal) rest
 
-pub goes_on : (rack : Rack) (n m : Names) (log : List Logged) (x : Logged) → Replays rack n log m → Legal rack m x → Replays rack n (log ++ x ∷ []) (after m x)
-goes_on rack n m [] x h legal = (subst (λ (k : Names). Legal rack k x) h legal, ap (λ (k : Names). after k x) h)
+pub goes_on : (rack : Rack) (n m : Names) (log : List Logged) (x : Logged) → ReplaysIndex rack n log m → LegalLogged rack m x → ReplaysIndex rack n (log ++ x ∷ []) (after m x)
+goes_on rack n m [] x h legal = (subst (λ (k : Names). LegalLogged rack k x) h legal, ap (λ (k : Names). after k x) h)
 goes_on rack n m (y ∷ log) x (first, rest) legal = (first, goes_on rack (after n y) m log x rest legal)
 
-pub went_on : (rack : Rack) (n k : Names) (log more : List Logged) → Replays rack n (log ++ more) k → (m : Names) × Replays rack n log m × Replays rack m more k
+pub went_on : (rack : Rack) (n k : Names) (log more : List Logged) → ReplaysIndex rack n (log ++ more) k → (m : Names) × ReplaysIndex rack n log m × ReplaysIndex rack m more k
 went_on rack n k [] more h = (n, refl, h)
 went_on rack n k (y ∷ log) more (first, rest) = let later = went_on rack (after n y) k log more rest in (later.0, (first, later.1), later.2)
 
-pub leads_once : (rack : Rack) (n m k : Names) (log : List Logged) → Replays rack n log m → Replays rack n log k → m ≡ k
+pub leads_once : (rack : Rack) (n m k : Names) (log : List Logged) → ReplaysIndex rack n log m → ReplaysIndex rack n log k → m ≡ k
 leads_once rack n m k [] p q = p ∙ sym q
 leads_once rack n m k (x ∷ log) p q = leads_once rack (after n x) m k log p.1 q.1

@@ -11,8 +11,8 @@ use Rattle.pot_index.specs.declared.reservation.Reservation.{Reservation}
 use Rattle.pot_index.specs.Entries.{brings, bringing}
 use Rattle.pot_index.specs.declared.record.Split.{Split}
 use Rattle.pot_index.specs.Records.{mark_of, renewed}
-use Rattle.pot_index.specs.Index.{IndexView, Ascends, without, logged}
-use Rattle.pot_index.specs.Searches.{StandsAt, BelongsAt}
+use Rattle.pot_index.specs.Index.{IndexView, NamesAscend, without, logged}
+use Rattle.pot_index.specs.Searches.{RecordStandsAt, BelongsAt}
 use Rattle.pot_index.proofs.ListLemmas.{plain_view, went_on_with}
 use Rattle.pot_index.proofs.RecordLemmas.{insert_is, set_is}
 
@@ -27,11 +27,11 @@ module _ (v : IndexView) (rack : Rack) (read records records' : List Record) (re
       ∙ went_on_with v rack read records records' reserved reserved' es rs (Publish job r.name (mark_of r)) r is refl few
       (λ i. record { published = (records_is ∙ insert_is r records at belongs) i; reserved = reserved_is i })
 
-  pub renewed_view : Ascends v.now.published → StandsAt v.now.published r.name at → records' ≡ slice_set records at r → reserved' ≡ reserved → es' ≡ es ++ Renew job r.name mark ∷ []
+  pub renewed_view : NamesAscend v.now.published → RecordStandsAt v.now.published r.name at → records' ≡ slice_set records at r → reserved' ≡ reserved → es' ≡ es ++ Renew job r.name mark ∷ []
       → plain_view rack read records' reserved' es' rs' ≡ logged v (bringing (Renew job r.name (mark_of r)) r)
   renewed_view up place records_is reserved_is entries_is =
-      let ascends : Ascends records = subst (λ (w : IndexView). Ascends w.now.published) (sym is) up in
-      let stands : StandsAt records r.name at = subst (λ (w : IndexView). StandsAt w.now.published r.name at) (sym is) place in
+      let ascends : NamesAscend records = subst (λ (w : IndexView). NamesAscend w.now.published) (sym is) up in
+      let stands : RecordStandsAt records r.name at = subst (λ (w : IndexView). RecordStandsAt w.now.published r.name at) (sym is) place in
       let entries_are : es' ≡ es ++ Renew job r.name (mark_of r) ∷ [] = entries_is ∙ ap (λ (m : Digest). es ++ Renew job r.name m ∷ []) marked in
       (λ i. plain_view rack read records' reserved' (entries_are i) (brought i))
       ∙ went_on_with v rack read records records' reserved reserved' es rs (Renew job r.name (mark_of r)) r is refl few
@@ -39,7 +39,7 @@ module _ (v : IndexView) (rack : Rack) (read records records' : List Record) (re
 
 -- The record at a place, which is `x`, was renewed to `r`.
 pub renewed_at : (v : IndexView) (rack : Rack) (read records records' : List Record) (reserved : List Reservation) (es es' : List IndexEntry) (rs rs' : List Record) (job : ℕ) (split : Split) (x r : Record) (mark : Digest) (at : ℕ)
-    → plain_view rack read records reserved es rs ≡ v → length rs ≡ length (filter brings es) → Ascends v.now.published → at < length v.now.published → x ≡ get_or records at x → r ≡ renewed x split → mark ≡ mark_of r → rs' ≡ rs ++ r ∷ []
+    → plain_view rack read records reserved es rs ≡ v → length rs ≡ length (filter brings es) → NamesAscend v.now.published → at < length v.now.published → x ≡ get_or records at x → r ≡ renewed x split → mark ≡ mark_of r → rs' ≡ rs ++ r ∷ []
     → records' ≡ slice_set records at r → es' ≡ es ++ Renew job r.name mark ∷ []
     → HoldsAt (λ o. plain_view rack read records' reserved es' rs' ≡ logged v (bringing (Renew job o.name (mark_of (renewed o split))) (renewed o split))) v.now.published at
 renewed_at v rack read records records' reserved es es' rs rs' job split x r mark at is few up lt x_is r_is marked brought records_is entries_is d =

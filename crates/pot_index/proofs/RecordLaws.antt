@@ -13,8 +13,8 @@ use Rattle.pot_index.specs.declared.record.Split.{Split}
 use Rattle.pot_index.specs.declared.reservation.Reservation.{Reservation}
 use Rattle.pot_index.specs.Entries.{IsPublishing, IsRenewing, entries, is_reserve, ends_reserve, reserved_in}
 use Rattle.pot_index.specs.Records.{splits_of, renewed, current_of}
-use Rattle.pot_index.specs.Index.{Names, IsPublished, IsReservedBy, IsRecordOf, AreNames, Ascends, LegalEntry, Replays, after, after_entry, same_name, inserted, replaced, without}
-use Rattle.pot_index.specs.Laws.{GoesOn}
+use Rattle.pot_index.specs.Index.{Names, IsPublished, IsReservedBy, IsRecordOf, AreNames, NamesAscend, LegalEntry, ReplaysIndex, after, after_entry, same_name, inserted, replaced, without}
+use Rattle.pot_index.specs.Laws.{KeepsFileAndSplits}
 use Rattle.pot_index.proofs.SearchLemmas.{less_at}
 use Rattle.pot_index.proofs.NameLemmas.{same_true, same_false, contains_map, from_map, length-without}
 use Rattle.pot_index.proofs.RecordLemmas.{record_names, differs_from_less, inserted_has, inserted_keeps, length-inserted, record_names-replaced, replaced_keeps, replaced_has}
@@ -49,14 +49,14 @@ publishing_makes rack n name (Publish j m mark) (Some r) (named, marked, mine, f
 publishing_makes rack n name (Publish j m mark) None legal is = absurd legal
 publishing_makes rack n name _ _ legal is = absurd is
 
-none_publishes : (rack : Rack) (n m : Names) (log : List Logged) (name : List ℕ) → AreNames rack n → Replays rack n log m → IsPublished n name → All (λ e. IsPublishing name e → ⊥) (entries log)
+none_publishes : (rack : Rack) (n m : Names) (log : List Logged) (name : List ℕ) → AreNames rack n → ReplaysIndex rack n log m → IsPublished n name → All (λ e. IsPublishing name e → ⊥) (entries log)
 none_publishes rack n m [] name a h there = All-nil (λ e. IsPublishing name e → ⊥)
 none_publishes rack n m (x ∷ log) name a (legal, rest) there =
     All-cons (λ e. IsPublishing name e → ⊥) x.entry (entries log) (λ is. publishing_needs rack n name x.entry x.brought a legal is there)
     (none_publishes rack (after n x) m log name (after_keeps rack n x a legal) rest (published_step rack n name x.entry x.brought legal there))
 
 pub published_once : (rack : Rack) (n m : Names) (log : List Logged) (name : List ℕ) (before : List IndexEntry) (e : IndexEntry) (behind : List IndexEntry)
-    → AreNames rack n → Replays rack n log m → entries log ≡ before ++ e ∷ behind → IsPublishing name e
+    → AreNames rack n → ReplaysIndex rack n log m → entries log ≡ before ++ e ∷ behind → IsPublishing name e
     → (IsPublished n name → ⊥) × All (λ f. IsPublishing name f → ⊥) before × All (λ f. IsPublishing name f → ⊥) behind
 published_once rack n m [] name [] e behind a h is publishes = absurd (cc)
 published_once rack n m [] name (b ∷ before) e behind a h is publishes = absurd (cc)
@@ -76,7 +76,7 @@ published_once rack n m (x ∷ log) name (b ∷ before) e behind a (legal, rest)
 -- RECORDS
 
 -- two records of one name are one
-pub one_record : (rs : List Record) (x y : Record) → Ascends rs → Contains rs x → Contains rs y → x.name ≡ y.name → x ≡ y
+pub one_record : (rs : List Record) (x y : Record) → NamesAscend rs → Contains rs x → Contains rs y → x.name ≡ y.name → x ≡ y
 one_record rs x y up (i, lt, at_i) (j, lu, at_j) same = by (cases_lt i j) (cases_lt j i)
   where
     x_there : get_or rs i y ≡ x
@@ -106,16 +106,16 @@ record_step rack n r (Renew j m mark) (Some q) (marked, fits, (o, old, is)) h qu
 record_step rack n r (Often j m) None legal h quiet = h
 record_step rack n r _ _ legal h quiet = absurd legal
 
-pub records_stay : (rack : Rack) (n m : Names) (log : List Logged) (r : Record) → AreNames rack n → Replays rack n log m → Contains n.published r → All (λ e. IsRenewing r.name e → ⊥) (entries log) → Contains m.published r
+pub records_stay : (rack : Rack) (n m : Names) (log : List Logged) (r : Record) → AreNames rack n → ReplaysIndex rack n log m → Contains n.published r → All (λ e. IsRenewing r.name e → ⊥) (entries log) → Contains m.published r
 records_stay rack n m [] r a h there quiet = subst (λ (k : Names). Contains k.published r) (sym h) there
 records_stay rack n m (x ∷ log) r a (legal, rest) there quiet =
     records_stay rack (after n x) m log r (after_keeps rack n x a legal) rest
     (record_step rack n r x.entry x.brought legal there (All-head (λ e. IsRenewing r.name e → ⊥) x.entry (entries log) quiet)) (All-tail (λ e. IsRenewing r.name e → ⊥) x.entry (entries log) quiet)
 
-goes_same : (r : Record) → GoesOn r r
+goes_same : (r : Record) → KeepsFileAndSplits r r
 goes_same r = record { name = refl; long = refl; digest = refl; splits = ([], sym (append-nil (splits_of r))) }
 
-goes_further : (r o p : Record) → GoesOn r o → GoesOn o p → GoesOn r p
+goes_further : (r o p : Record) → KeepsFileAndSplits r o → KeepsFileAndSplits o p → KeepsFileAndSplits r p
 goes_further r o p g h = record {
   name = h.name ∙ g.name;
   long = h.long ∙ g.long;
@@ -123,7 +123,7 @@ goes_further r o p g h = record {
   splits = (g.splits.0 ++ h.splits.0, h.splits.1 ∙ ap (λ (t : List Split). t ++ h.splits.0) g.splits.1 ∙ append_assoc (splits_of r) g.splits.0 h.splits.0);
 }
 
-goes_renewed : (r q : Record) → q ≡ renewed r (current_of q) → GoesOn r q
+goes_renewed : (r q : Record) → q ≡ renewed r (current_of q) → KeepsFileAndSplits r q
 goes_renewed r q is = record {
   name = ap (λ (z : Record). z.name) is;
   long = ap (λ (z : Record). z.length) is;
@@ -131,7 +131,7 @@ goes_renewed r q is = record {
   splits = (current_of q ∷ [], ap (λ (z : List Split). z ++ current_of q ∷ []) (ap (λ (z : Record). z.older) is));
 }
 
-splits_step : (rack : Rack) (n : Names) (r : Record) (e : IndexEntry) (b : Option Record) → AreNames rack n → LegalEntry rack n e b → Contains n.published r → (o : Record) × Contains (after_entry n e b).published o × GoesOn r o
+splits_step : (rack : Rack) (n : Names) (r : Record) (e : IndexEntry) (b : Option Record) → AreNames rack n → LegalEntry rack n e b → Contains n.published r → (o : Record) × Contains (after_entry n e b).published o × KeepsFileAndSplits r o
 splits_step rack n r (Reserve j m) None a legal h = (r, h, goes_same r)
 splits_step rack n r (Taken j m) None a legal h = (r, h, goes_same r)
 splits_step rack n r (Publish j m mark) (Some q) a legal h = (r, inserted_keeps q r n.published h, goes_same r)
@@ -140,7 +140,7 @@ splits_step rack n r (Find j m found) None a legal h = (r, h, goes_same r)
 splits_step rack n r (Listed j) None a legal h = (r, h, goes_same r)
 splits_step rack n r (Renew j m mark) (Some q) a (marked, fits, (o, old, is)) h = by (cases_Bool (same_name r.name q.name))
   where
-    by : (same_name r.name q.name ≡ true) ⊎ (same_name r.name q.name ≡ false) → (p : Record) × Contains (replaced q n.published) p × GoesOn r p
+    by : (same_name r.name q.name ≡ true) ⊎ (same_name r.name q.name ≡ false) → (p : Record) × Contains (replaced q n.published) p × KeepsFileAndSplits r p
     by (inl same) =
         let named : o.name ≡ r.name = sym (ap (λ (z : Record). z.name) is) ∙ sym (same_true r.name q.name same) in
         let it : o ≡ r = one_record n.published o r a.ascends old.0 h named in (
@@ -152,7 +152,7 @@ splits_step rack n r (Renew j m mark) (Some q) a (marked, fits, (o, old, is)) h 
 splits_step rack n r (Often j m) None a legal h = (r, h, goes_same r)
 splits_step rack n r _ _ a legal h = absurd legal
 
-pub splits_stay : (rack : Rack) (n m : Names) (log : List Logged) (r : Record) → AreNames rack n → Replays rack n log m → Contains n.published r → (o : Record) × Contains m.published o × GoesOn r o
+pub splits_stay : (rack : Rack) (n m : Names) (log : List Logged) (r : Record) → AreNames rack n → ReplaysIndex rack n log m → Contains n.published r → (o : Record) × Contains m.published o × KeepsFileAndSplits r o
 splits_stay rack n m [] r a h there = (r, subst (λ (k : Names). Contains k.published r) (sym h) there, goes_same r)
 splits_stay rack n m (x ∷ log) r a (legal, rest) there =
     let one = splits_step rack n r x.entry x.brought a legal there in
@@ -191,16 +191,16 @@ filter_few p (e ∷ es) = by (p e) (filter_few p es)
     by true go = omega arith
     by false go = omega arith
 
-count_on : (rack : Rack) (n m : Names) (log : List Logged) → Replays rack n log m
+count_on : (rack : Rack) (n m : Names) (log : List Logged) → ReplaysIndex rack n log m
     → length m.reserved + length (filter ends_reserve (entries log)) ≡ length n.reserved + length (filter is_reserve (entries log))
 count_on rack n m [] h = ap (λ (k : Names). length k.reserved + 0) h
 count_on rack n m (x ∷ log) (legal, rest) =
     omega (arith, count_step rack n x.entry x.brought legal, count_on rack (after n x) m log rest, filter_cons ends_reserve x.entry (entries log), filter_cons is_reserve x.entry (entries log))
 
-pub counts_reserved : (rack : Rack) (n m : Names) (log : List Logged) → Replays rack n log m → n.reserved ≡ [] → length m.reserved ≡ reserved_in (entries log)
+pub counts_reserved : (rack : Rack) (n m : Names) (log : List Logged) → ReplaysIndex rack n log m → n.reserved ≡ [] → length m.reserved ≡ reserved_in (entries log)
 counts_reserved rack n m log h none = omega (arith, count_on rack n m log h, ap length none)
 
-pub owed_never_falls : (rack : Rack) (n m : Names) (log : List Logged) → Replays rack n log m → length n.reserved ≤ length log + length m.reserved
+pub owed_never_falls : (rack : Rack) (n m : Names) (log : List Logged) → ReplaysIndex rack n log m → length n.reserved ≤ length log + length m.reserved
 owed_never_falls rack n m log h =
     omega (arith, count_on rack n m log h, filter_few ends_reserve (entries log), length-map log (λ (x : Logged). x.entry))
 
@@ -215,6 +215,6 @@ few_step rack n (Renew j m mark) (Some r) legal = omega (arith, length-map n.pub
 few_step rack n (Often j m) None legal = omega arith
 few_step rack n _ _ legal = absurd legal
 
-pub few_published : (rack : Rack) (n m : Names) (log : List Logged) → Replays rack n log m → length m.published ≤ length n.published + length log
+pub few_published : (rack : Rack) (n m : Names) (log : List Logged) → ReplaysIndex rack n log m → length m.published ≤ length n.published + length log
 few_published rack n m [] h = omega (arith, ap (λ (k : Names). length k.published) h)
 few_published rack n m (x ∷ log) (legal, rest) = omega (arith, few_step rack n x.entry x.brought legal, few_published rack (after n x) m log rest)

@@ -13,8 +13,8 @@ use Rattle.std.proofs.lemmas.List.{length-map}
 use Rattle.std.proofs.lemmas.Map.Keys.{sorted_head, sorted_tail}
 use Rattle.pot_bytes.proofs.Elements.{none_contained, contains_later}
 use Rattle.pot_index.specs.declared.record.Record.{Record}
-use Rattle.pot_index.specs.Index.{Ascends, same_name, inserted, replaced}
-use Rattle.pot_index.specs.Searches.{StandsAt, BelongsAt}
+use Rattle.pot_index.specs.Index.{NamesAscend, same_name, inserted, replaced}
+use Rattle.pot_index.specs.Searches.{RecordStandsAt, BelongsAt}
 use Rattle.pot_index.proofs.SearchLemmas.{same_from_equal}
 use Rattle.pot_index.proofs.NameLemmas.{at_true, at_false, same_back, same_true, other_names, contains_here, contains_cases, contains_map, from_map, all_from_members}
 
@@ -41,15 +41,15 @@ differs_from_greater a b h e =
 less_back : (a b : List ℕ) → by_name a b ≡ Greater → by_name b a ≡ Less
 less_back a b h = nat_list_cmp_total.antisymm b a ∙ ap ordering_reverse h
 
-ascends_cons : (o : Record) (os : List Record) → ((n : List ℕ) → Contains (record_names os) n → by_name o.name n ≡ Less) → Ascends os → Ascends (o ∷ os)
+ascends_cons : (o : Record) (os : List Record) → ((n : List ℕ) → Contains (record_names os) n → by_name o.name n ≡ Less) → NamesAscend os → NamesAscend (o ∷ os)
 unfolding IsStrictlySortedBy
 ascends_cons o os head tail =
     (recursion_from_All (λ n. by_name o.name n ≡ Less) (record_names os) (all_from_members (λ n. by_name o.name n ≡ Less) (record_names os) head), tail)
 
-pub ascends_tail : (o : Record) (os : List Record) → Ascends (o ∷ os) → Ascends os
+pub ascends_tail : (o : Record) (os : List Record) → NamesAscend (o ∷ os) → NamesAscend os
 ascends_tail o os up = sorted_tail (slice_cmp nat_cmp) o.name (record_names os) up
 
-pub ascends_head : (o : Record) (os : List Record) (n : List ℕ) → Ascends (o ∷ os) → Contains (record_names os) n → by_name o.name n ≡ Less
+pub ascends_head : (o : Record) (os : List Record) (n : List ℕ) → NamesAscend (o ∷ os) → Contains (record_names os) n → by_name o.name n ≡ Less
 ascends_head o os n up h =
     All-contains (λ m. by_name o.name m ≡ Less) (record_names os) n
     (All-from_recursion (λ m. by_name o.name m ≡ Less) (record_names os) (sorted_head (slice_cmp nat_cmp) o.name (record_names os) up)) h
@@ -98,7 +98,7 @@ length-inserted r (x ∷ rs) = by (is_lt (by_name x.name r.name)) (length-insert
     by true go = omega arith
     by false go = omega arith
 
-pub inserted_ascends : (r : Record) (rs : List Record) → Ascends rs → (Contains (record_names rs) r.name → ⊥) → Ascends (inserted r rs)
+pub inserted_ascends : (r : Record) (rs : List Record) → NamesAscend rs → (Contains (record_names rs) r.name → ⊥) → NamesAscend (inserted r rs)
 inserted_ascends r [] up new = ascends_cons r [] (λ n h. absurd (none_contained n h)) up
 inserted_ascends r (x ∷ rs) up new =
     by (by_name x.name r.name) refl (inserted_ascends r rs (ascends_tail x rs up) (λ h. new (contains_later x.name r.name (record_names rs) h)))
@@ -120,7 +120,7 @@ inserted_ascends r (x ∷ rs) up new =
         by_case (inl e) = subst (λ m. by_name r.name m ≡ Less) e (less_back x.name r.name more)
         by_case (inr later) = nat_list_cmp_total.trans r.name x.name n (less_back x.name r.name more) (ascends_head x rs n up later)
 
-    by : (t : Ordering) → by_name x.name r.name ≡ t → Ascends (inserted r rs) → Ascends (if is_lt t then x ∷ inserted r rs else r ∷ x ∷ rs)
+    by : (t : Ordering) → by_name x.name r.name ≡ t → NamesAscend (inserted r rs) → NamesAscend (if is_lt t then x ∷ inserted r rs else r ∷ x ∷ rs)
     by Less e go = ascends_cons x (inserted r rs) (λ n h. after_x n e h) go
     by Equal e go = absurd (new (subst (λ m. Contains (record_names (x ∷ rs)) m) (same_from_equal x.name r.name e) (contains_here x.name (record_names rs))))
     by Greater e go = ascends_cons r (x ∷ rs) (λ n h. after_r n e h) up
@@ -180,7 +180,7 @@ replaced_none r (x ∷ rs) none =
     ∷ replaced_none r rs (λ h. none (contains_later x.name r.name (record_names rs) h)) i
 
 -- the records, one of which is written anew
-pub set_is : (r : Record) (rs : List Record) (at : ℕ) → Ascends rs → StandsAt rs r.name at → slice_set rs at r ≡ replaced r rs
+pub set_is : (r : Record) (rs : List Record) (at : ℕ) → NamesAscend rs → RecordStandsAt rs r.name at → slice_set rs at r ≡ replaced r rs
 set_is r [] at up h = absurd (omega (arith, h.0))
 set_is r (x ∷ rs) zero up h =
     let same : x.name ≡ r.name = h.1 x in
@@ -194,12 +194,12 @@ set_is r (x ∷ rs) (suc at) up h =
 
 -- SEARCHES
 
-name_at : (rs : List Record) (name : List ℕ) (at : ℕ) → StandsAt rs name at → get_or (record_names rs) at name ≡ name
+name_at : (rs : List Record) (name : List ℕ) (at : ℕ) → RecordStandsAt rs name at → get_or (record_names rs) at name ≡ name
 name_at [] name at h = absurd (omega (arith, h.0))
 name_at (x ∷ rs) name zero h = h.1 x
 name_at (x ∷ rs) name (suc at) h = name_at rs name at (omega (arith, h.0), h.1)
 
-pub stands_published : (rs : List Record) (name : List ℕ) (at : ℕ) → StandsAt rs name at → Contains (record_names rs) name
+pub stands_published : (rs : List Record) (name : List ℕ) (at : ℕ) → RecordStandsAt rs name at → Contains (record_names rs) name
 stands_published rs name at h = (at, omega (arith, h.0, length-map rs (λ r. r.name)), name_at rs name at h)
 
 pub belongs_unpublished : (rs : List Record) (name : List ℕ) (at : ℕ) → BelongsAt rs name at → Contains (record_names rs) name → ⊥

@@ -16,19 +16,19 @@ use Rattle.pot_index.specs.declared.record.Record.{Record}
 use Rattle.pot_index.specs.declared.record.Split.{Split}
 use Rattle.pot_index.specs.Calls.{Renews, published_by}
 use Rattle.pot_index.specs.Entries.{IsReserving, entries, plain}
-use Rattle.pot_index.specs.Index.{IndexView, IsIndex, AreRead, IsReservedBy, IsRecordOf, logged, replaced}
+use Rattle.pot_index.specs.Index.{IndexView, IsIndex, AreFirstRecords, IsReservedBy, IsRecordOf, logged, replaced}
 use Rattle.pot_index.specs.Records.{renewed}
 use Rattle.pot_index.specs.Stories.{HasSmall}
 use Rattle.pot_index.proofs.NameLemmas.{contains_map}
 use Rattle.pot_index.proofs.RecordLaws.{one_record}
 use Rattle.pot_index.proofs.RecordLemmas.{inserted_has, replaced_has}
 
-empty_read : (rack : Rack) → AreRead rack []
+empty_read : (rack : Rack) → AreFirstRecords rack []
 unfolding IsStrictlySortedBy
 empty_read rack = record { few = omega arith; ascends = tt; fits = λ k d lt. absurd (omega arith) }
 
-pub none_read : (rack : Rack) (rs : List Record) → rs ≡ [] → AreRead rack rs
-none_read rack rs none = subst (AreRead rack) (sym none) (empty_read rack)
+pub none_read : (rack : Rack) (rs : List Record) → rs ≡ [] → AreFirstRecords rack rs
+none_read rack rs none = subst (AreFirstRecords rack) (sym none) (empty_read rack)
 
 pub reserved_here : (s t : IndexView) (job : ℕ) (name : List ℕ) → t ≡ logged s (plain (Reserve job name)) → IsReservedBy t.now job name
 reserved_here s t job name is =

@@ -17,23 +17,23 @@ use Rattle.pot_index.specs.declared.record.Record.{Record}
 use Rattle.pot_index.specs.declared.record.Split.{Split}
 use Rattle.pot_index.specs.Records.{renewed, mark_of}
 use Rattle.pot_index.specs.Entries.{plain, bringing}
-use Rattle.pot_index.specs.Index.{IndexView, IsPublished, IsRecordOf, IsTaken, IsFree, owed, logged}
+use Rattle.pot_index.specs.Index.{IndexView, IsPublished, IsRecordOf, IsNameTaken, IsFree, owed, logged}
 
 -- so many more entries are within the bound of the log, beside one for each reserved name
 abbrev pub HasRoom : ℕ → IndexView → Type 0
 HasRoom n s = owed s + n ≤ log_bound
 
 -- or they are not, and nothing changed
-abbrev pub IsFull : ℕ → IndexView → IndexView → Type 0
-IsFull n s t = (log_bound < owed s + n) × (t ≡ s)
+abbrev pub IsFullIndex : ℕ → IndexView → IndexView → Type 0
+IsFullIndex n s t = (log_bound < owed s + n) × (t ≡ s)
 
 -- `reserve`: an entry for Reserve, and one for what will end it
 abbrev pub Reserves : ℕ → List ℕ → IndexView → IndexView → Result (Unit {0}) ReserveFault → Type 0
 Reserves job name s t (Ok u) =
     HasRoom 2 s × IsFree s.now name × (t ≡ logged s (plain (entry.Reserve job name)))
-Reserves job name s t (Err reserve_fault.LogFull) = IsFull 2 s t
+Reserves job name s t (Err reserve_fault.LogFull) = IsFullIndex 2 s t
 Reserves job name s t (Err reserve_fault.Exists) =
-    HasRoom 2 s × IsTaken s.now name × (t ≡ logged s (plain (entry.Taken job name)))
+    HasRoom 2 s × IsNameTaken s.now name × (t ≡ logged s (plain (entry.Taken job name)))
 Reserves job name s t (Err reserve_fault.NoMemory) = HasRoom 2 s × IsFree s.now name × (t ≡ s)
 
 -- `publish` and `abandon`
@@ -47,7 +47,7 @@ abandoned_by s job name = logged s (plain (entry.Abandon job name))
 abbrev pub Finds : ℕ → List ℕ → IndexView → IndexView → Result Record FindFault → Type 0
 Finds job name s t (Ok r) =
     HasRoom 1 s × IsRecordOf s.now name r × (t ≡ logged s (plain (entry.Find job name true)))
-Finds job name s t (Err find_fault.LogFull) = IsFull 1 s t
+Finds job name s t (Err find_fault.LogFull) = IsFullIndex 1 s t
 Finds job name s t (Err find_fault.Absent) =
     HasRoom 1 s × (¬ IsPublished s.now name) × (t ≡ logged s (plain (entry.Find job name false)))
 Finds job name s t (Err find_fault.NoMemory) = HasRoom 1 s × IsPublished s.now name × (t ≡ s)
@@ -60,7 +60,7 @@ abbrev pub ListsNames : ℕ → IndexView → IndexView → Result (Vec Listed G
 ListsNames job s t (Ok v) =
     HasRoom 1 s × (v.items ≡ map listed_of s.now.published)
     × (t ≡ logged s (plain (entry.Listed job)))
-ListsNames job s t (Err list_fault.LogFull) = IsFull 1 s t
+ListsNames job s t (Err list_fault.LogFull) = IsFullIndex 1 s t
 ListsNames job s t (Err list_fault.NoMemory) = HasRoom 1 s × (t ≡ s)
 
 -- `renew`, of the record that is published under the name
@@ -69,7 +69,7 @@ abbrev pub RenewsRecord : ℕ → List ℕ → Split → IndexView → IndexView
 RenewsRecord job name split s t r (Ok u) =
     HasRoom 1 s × (length r.older < 15)
     × (t ≡ logged s (bringing (entry.Renew job name (mark_of (renewed r split))) (renewed r split)))
-RenewsRecord job name split s t r (Err renew_fault.LogFull) = IsFull 1 s t
+RenewsRecord job name split s t r (Err renew_fault.LogFull) = IsFullIndex 1 s t
 RenewsRecord job name split s t r (Err renew_fault.TooOften) =
     HasRoom 1 s × (length r.older ≡ 15) × (t ≡ logged s (plain (entry.Often job name)))
 RenewsRecord job name split s t r (Err renew_fault.NoMemory) =

@@ -19,7 +19,7 @@ pub record EndsAt (job : ℕ) (name : List ℕ) (es : List IndexEntry) (at : ℕ
   pub last : All (λ e. ¬ IsReserving job name e) (between ++ ended ∷ behind)
 
 -- no entry ended it after the last one that made it
-pub record IsHeld (job : ℕ) (name : List ℕ) (es : List IndexEntry) : Type 0 where
+pub record IsNameHeld (job : ℕ) (name : List ℕ) (es : List IndexEntry) : Type 0 where
   pub before : List IndexEntry
   pub made : IndexEntry
   pub behind : List IndexEntry
@@ -29,8 +29,8 @@ pub record IsHeld (job : ℕ) (name : List ℕ) (es : List IndexEntry) : Type 0 
   pub last : All (λ e. ¬ IsReserving job name e) behind
 
 -- what is known of the end, after one more entry at this place
-abbrev pub Steps : ℕ → List ℕ → IndexEntry → ℕ → Option ℕ → Option ℕ → Type 0
-Steps job name e at ended result =
+abbrev pub StepsEnd : ℕ → List ℕ → IndexEntry → ℕ → Option ℕ → Option ℕ → Type 0
+StepsEnd job name e at ended result =
     (IsReserving job name e × (result ≡ None))
     ⊎ ((¬ IsReserving job name e) × IsEnding job name e × (ended ≡ None) × (result ≡ Some at))
     ⊎ ((¬ IsReserving job name e) × (ended ≡ None → ¬ IsEnding job name e) × (result ≡ ended))

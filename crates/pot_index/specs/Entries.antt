@@ -62,12 +62,12 @@ ends_reserve (Abandon job name) = true
 ends_reserve _ = false
 
 -- an entry that changes no name
-abbrev pub IsQuiet : IndexEntry → Type 0
-IsQuiet (Taken job name) = Unit {0}
-IsQuiet (Find job name found) = Unit {0}
-IsQuiet (Listed job) = Unit {0}
-IsQuiet (Often job name) = Unit {0}
-IsQuiet _ = ⊥
+abbrev pub ChangesNoName : IndexEntry → Type 0
+ChangesNoName (Taken job name) = Unit {0}
+ChangesNoName (Find job name found) = Unit {0}
+ChangesNoName (Listed job) = Unit {0}
+ChangesNoName (Often job name) = Unit {0}
+ChangesNoName _ = ⊥
 
 -- the entry makes the job's reservation of the name, or ends it
 abbrev pub IsReserving : ℕ → List ℕ → IndexEntry → Type 0

@@ -37,15 +37,15 @@ abbrev pub IsRecordOf : Names → List ℕ → Record → Type 0
 IsRecordOf n name r = Contains n.published r × (r.name ≡ name)
 
 -- the name is published or reserved, or neither
-abbrev pub IsTaken : Names → List ℕ → Type 0
-IsTaken n name = IsPublished n name ⊎ IsReserved n name
+abbrev pub IsNameTaken : Names → List ℕ → Type 0
+IsNameTaken n name = IsPublished n name ⊎ IsReserved n name
 
 abbrev pub IsFree : Names → List ℕ → Type 0
 IsFree n name = (¬ IsPublished n name) × (¬ IsReserved n name)
 
 -- names in the order of their bytes, each once
-abbrev pub Ascends : List Record → Type 0
-Ascends rs = IsStrictlySortedBy (slice_cmp nat_cmp) (map (λ r. r.name) rs)
+abbrev pub NamesAscend : List Record → Type 0
+NamesAscend rs = IsStrictlySortedBy (slice_cmp nat_cmp) (map (λ r. r.name) rs)
 
 abbrev pub same_name : List ℕ → List ℕ → Bool
 same_name a b = pointwise ◌==◌ a b
@@ -53,7 +53,7 @@ same_name a b = pointwise ◌==◌ a b
 -- the records are those of distinct names, ascending, and fit the rack; the reserved names are
 -- distinct, and none of them is published
 pub record AreNames (rack : Rack) (n : Names) : Type 0 where
-  pub ascends : Ascends n.published
+  pub ascends : NamesAscend n.published
   pub fits : All (FitsRack rack) n.published
   pub free : All (λ x. ¬ IsPublished n x.name) n.reserved
   pub once : IsDistinct same_name (map (λ x. x.name) n.reserved)
@@ -62,7 +62,7 @@ pub record AreNames (rack : Rack) (n : Names) : Type 0 where
 
 abbrev pub LegalEntry : Rack → Names → IndexEntry → Option Record → Type 0
 LegalEntry rack n (Reserve job name) None = IsFree n name
-LegalEntry rack n (Taken job name) None = IsTaken n name
+LegalEntry rack n (Taken job name) None = IsNameTaken n name
 LegalEntry rack n (Publish job name mark) (Some r) =
     (r.name ≡ name) × (mark ≡ mark_of r) × IsReservedBy n job name × FitsRack rack r
 LegalEntry rack n (Abandon job name) None = IsReservedBy n job name
@@ -74,8 +74,8 @@ LegalEntry rack n (Renew job name mark) (Some r) =
 LegalEntry rack n (Often job name) None = (o : Record) × IsRecordOf n name o × (length o.older ≡ 15)
 LegalEntry rack n _ _ = ⊥
 
-abbrev pub Legal : Rack → Names → Logged → Type 0
-Legal rack n x = LegalEntry rack n x.entry x.brought
+abbrev pub LegalLogged : Rack → Names → Logged → Type 0
+LegalLogged rack n x = LegalEntry rack n x.entry x.brought
 
 -- WHAT EACH ENTRY DOES
 
@@ -114,18 +114,18 @@ after n x = after_entry n x.entry x.brought
 -- WHOLE LOGS
 
 -- the entries lead from these names to those, each legal in turn
-abbrev pub Replays : Rack → Names → List Logged → Names → Type 0
-Replays rack n [] m = m ≡ n
-Replays rack n (x ∷ log) m = Legal rack n x × Replays rack (after n x) log m
+abbrev pub ReplaysIndex : Rack → Names → List Logged → Names → Type 0
+ReplaysIndex rack n [] m = m ≡ n
+ReplaysIndex rack n (x ∷ log) m = LegalLogged rack n x × ReplaysIndex rack (after n x) log m
 
 -- the names of an index that has published these records, and nothing is reserved
 abbrev pub names_read : List Record → Names
 names_read rs = record { published = rs; reserved = [] }
 
 -- records with which an index may begin
-pub record AreRead (rack : Rack) (rs : List Record) : Type 0 where
+pub record AreFirstRecords (rack : Rack) (rs : List Record) : Type 0 where
   pub few : length rs ≤ 4000000000
-  pub ascends : Ascends rs
+  pub ascends : NamesAscend rs
   pub fits : All (FitsRack rack) rs
 
 -- THE INDEX
@@ -145,9 +145,9 @@ owed s = length s.log + length s.now.reserved
 -- name
 pub record IsIndex (s : IndexView) : Type 0 where
   pub rack : IsRack s.rack
-  pub read : AreRead s.rack s.read
+  pub read : AreFirstRecords s.rack s.read
   pub names : AreNames s.rack s.now
-  pub replays : Replays s.rack (names_read s.read) s.log s.now
+  pub replays : ReplaysIndex s.rack (names_read s.read) s.log s.now
   pub room : owed s ≤ log_bound
 
 -- an index that has published these records

@@ -7,8 +7,8 @@ use Rattle.std.specs.declared.cmp.Ordering.TheVariants.{Less, Greater}
 use Rattle.pot_index.specs.declared.record.Record.{Record}
 
 -- the record at this place has the name
-abbrev pub StandsAt : List Record → List ℕ → ℕ → Type 0
-StandsAt rs name at = (at < length rs) × HoldsAt (λ r. r.name ≡ name) rs at
+abbrev pub RecordStandsAt : List Record → List ℕ → ℕ → Type 0
+RecordStandsAt rs name at = (at < length rs) × HoldsAt (λ r. r.name ≡ name) rs at
 
 -- the records before this place have lesser names, and those from it on greater ones
 pub record BelongsAt (rs : List Record) (name : List ℕ) (at : ℕ) : Type 0 where

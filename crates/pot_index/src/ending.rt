@@ -2,7 +2,7 @@
 ghost use Rattle.std.specs.Prelude.{◌↔◌, ◌≤◌, IsTrue, Any, MatchOption, length};
 ghost use Rattle.pot_bytes.specs.Rack.{log_bound};
 ghost use Rattle.pot_index.specs.Entries.{IsReserving, IsEnding};
-ghost use Rattle.pot_index.specs.Ending.{IsHeld, EndsAt, Steps};
+ghost use Rattle.pot_index.specs.Ending.{IsNameHeld, EndsAt, StepsEnd};
 
 use crate::entry::IndexEntry;
 use pot_bytes::Name;
@@ -51,7 +51,7 @@ fn is_ending(entry: &IndexEntry, job: u32, name: &Name) -> bool
 
 /// Where the reservation ended, after one more entry.
 fn ended_with(ended: Option<u32>, at: u32, entry: &IndexEntry, job: u32, name: &Name) -> Option<u32>
-    ensures { Steps job name.now entry.now at ended result }
+    ensures { StepsEnd job name.now entry.now at ended result }
 {
     if is_reserving(entry, job, name) {
         return None;
@@ -66,7 +66,7 @@ fn ended_with(ended: Option<u32>, at: u32, entry: &IndexEntry, job: u32, name: &
 pub(crate) fn end_of(log: &[IndexEntry], job: u32, name: &Name) -> Option<u32>
     requires few { length log.now ≤ log_bound }
     requires made { Any (IsReserving job name.now) log.now }
-    ensures { MatchOption result (IsHeld job name.now log.now) (EndsAt job name.now log.now) }
+    ensures { MatchOption result (IsNameHeld job name.now log.now) (EndsAt job name.now log.now) }
 {
     let mut ended = None;
     for (at, entry) in log.iter().enumerate() {

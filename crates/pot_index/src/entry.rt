@@ -4,8 +4,8 @@ use pot_bytes::{Digest, Name};
 
 /// An entry of the index's log.
 ///
-/// `job` is the number of the job that logged it, and `name` the name that it speaks of. `mark` is the digest of the
-/// record's bytes as they are from then on.
+/// `job` is the number of the job that logged it, and `name` the name that it speaks of. `mark` is
+/// the digest of the record's bytes as they are from then on.
 #[derive(Clone, Copy, PartialEq, Eq)]
 pub enum IndexEntry {
     /// The name was free, and is reserved by the job.
@@ -26,8 +26,9 @@ pub enum IndexEntry {
     Often { job: u32, name: Name },
 }
 
-/// An entry with what it brought: with a Publish the record that it published, and with a Renew the record as it is from
-/// then on, whose current split is the new one. Contracts see the log as a list of these, and no value is made.
+/// An entry with what it brought: with a Publish the record that it published, and with a Renew the
+/// record as it is from then on, whose current split is the new one. Contracts see the log as a
+/// list of these, and no value is made.
 #[derive(Drop)]
 pub struct Logged {
     pub entry: IndexEntry,

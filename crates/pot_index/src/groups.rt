@@ -5,7 +5,8 @@ ghost use Rattle.pot_index.specs.Fits.{group_of};
 
 use pot_bytes::{Geometry, Rack};
 
-/// The group of the block of this number of a split of this geometry. Blocks are numbered by piece, fragment and point.
+/// The group of the block of this number of a split of this geometry. Blocks are numbered by piece,
+/// fragment and point.
 pub fn group_of(rack: &Rack, geometry: &Geometry, number: u32) -> u8
     requires rack { IsRack rack.now }
     requires geometry { IsGeometry geometry.now }

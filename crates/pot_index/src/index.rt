@@ -5,7 +5,8 @@ ghost use Rattle.pot_object.specs.Pieces.{pieces_of};
 ghost use Rattle.pot_index.specs.Entries.{IsReserving, entries};
 ghost use Rattle.pot_index.specs.Ending.{EndsAt};
 ghost use Rattle.pot_index.specs.Fits.{FitsRack, FitsSplit};
-ghost use Rattle.pot_index.specs.Index.{IsIndex, AreRead, IsReservedBy, IsRecordOf, started};
+ghost use Rattle.pot_index.specs.Index.{IsIndex, AreFirstRecords, IsReservedBy, IsRecordOf};
+ghost use Rattle.pot_index.specs.Index.{started};
 ghost use Rattle.pot_index.specs.Calls.{Reserves, Finds, ListsNames, Renews, published_by};
 ghost use Rattle.pot_index.specs.Calls.{abandoned_by};
 
@@ -20,8 +21,8 @@ use pot_bytes::{LOG_BOUND, Name, Rack};
 use std::alloc::Global;
 use std::marker::Model;
 
-/// The index of an archive. Contracts see its rack, the records that it began with, the names now, and the log of which
-/// each entry says what it brought.
+/// The index of an archive. Contracts see its rack, the records that it began with, the names now,
+/// and the log of which each entry says what it brought.
 #[derive(Drop)]
 pub struct Index {
     lists: Lists,
@@ -44,7 +45,7 @@ impl Index {
     /// Want of memory alone, for the log.
     pub fn start(alloc: Global, rack: &Rack, records: Vec<Record>) -> Result<Index, IndexRefused>
         requires rack { IsRack rack.now }
-        requires records { AreRead rack.now records.items }
+        requires records { AreFirstRecords rack.now records.items }
         ensures started { IfOk result (λ i. i ≡ started rack.now records.items) }
         ensures refused { IfErr result (λ e. e.records.items ≡ records.items) }
     {
@@ -54,7 +55,8 @@ impl Index {
         }
     }
 
-    /// Reserves a name that is free, and keeps room for its record and for the entry that will end the reservation.
+    /// Reserves a name that is free, and keeps room for its record and for the entry that will end
+    /// the reservation.
     pub fn reserve(&mut self, job: u32, name: &Name) -> Result<(), ReserveFault>
         ensures { Reserves job name.now self.old self.new result }
     {
@@ -125,8 +127,8 @@ impl Index {
         Ok(names)
     }
 
-    /// Gives the record that is published under the name a new current split. The old one stays, as the last of the older
-    /// ones.
+    /// Gives the record that is published under the name a new current split. The old one stays, as
+    /// the last of the older ones.
     pub fn renew(&mut self, job: u32, name: &Name, split: Split) -> Result<(), RenewFault>
         requires { (r : Record) × IsRecordOf self.old.now name.now r
             × FitsSplit self.old.rack (pieces_of r.length) split }
@@ -154,8 +156,9 @@ impl Index {
         self.lists.logged()
     }
 
-    /// None where the job holds its reservation of the name, else the place in the log of the entry that ended it: the first
-    /// Publish or Abandon of the name with this job's number after the job's last Reserve of it.
+    /// None where the job holds its reservation of the name, else the place in the log of the entry
+    /// that ended it: the first Publish or Abandon of the name with this job's number after the
+    /// job's last Reserve of it.
     pub fn ended_at(&self, job: u32, name: &Name) -> Option<u32>
         requires { Any (IsReserving job name.now) (entries self.now.log) }
         ensures held { MatchOption result (IsReservedBy self.now.now job name.now)

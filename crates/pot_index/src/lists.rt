@@ -1,15 +1,17 @@
-//! The lists of an index, with the room for all that is to come: no call but `begin`, `reserve` and `renew` takes memory.
+//! The lists of an index, with the room for all that is to come: no call but `begin`, `reserve` and
+//! `renew` takes memory.
 ghost use Rattle.std.specs.Prelude.{◌≡◌, ◌<◌, ◌≤◌, ◌+◌, ◌↔◌, false, IsTrue, IfOk, OnOk, OnErr, Any};
 ghost use Rattle.std.specs.Prelude.{MatchBool, MatchOption, MatchResult, HoldsAt, Contains, length};
 ghost use Rattle.std.specs.Prelude.{map};
 ghost use Rattle.pot_bytes.specs.Rack.{log_bound};
-ghost use Rattle.pot_index.specs.Entries.{IsReserving, IsQuiet, plain, bringing, brings, entries};
+ghost use Rattle.pot_index.specs.Entries.{IsReserving, ChangesNoName, plain, bringing, brings};
+ghost use Rattle.pot_index.specs.Entries.{entries};
 ghost use Rattle.pot_index.specs.Records.{renewed, mark_of};
-ghost use Rattle.pot_index.specs.Index.{IsReserved, IsReservedBy, IsTaken, IsFree, Ascends};
+ghost use Rattle.pot_index.specs.Index.{IsReserved, IsReservedBy, IsNameTaken, IsFree, NamesAscend};
 ghost use Rattle.pot_index.specs.Index.{started, logged, owed};
-ghost use Rattle.pot_index.specs.Searches.{StandsAt, BelongsAt};
+ghost use Rattle.pot_index.specs.Searches.{RecordStandsAt, BelongsAt};
 ghost use Rattle.pot_index.specs.Calls.{listed_of};
-ghost use Rattle.pot_index.specs.Ending.{IsHeld, EndsAt};
+ghost use Rattle.pot_index.specs.Ending.{IsNameHeld, EndsAt};
 
 use crate::ended::IndexEnded;
 use crate::ending::end_of;
@@ -24,8 +26,8 @@ use std::alloc::Global;
 use std::marker::Model;
 use std::snapshot::Snapshot;
 
-/// The records by name, the reserved names, the log, and what clauses alone see: the records that the index began with, and
-/// those that entries brought.
+/// The records by name, the reserved names, the log, and what clauses alone see: the records that
+/// the index began with, and those that entries brought.
 #[derive(Drop)]
 pub(crate) struct Lists {
     rack: Rack,
@@ -78,8 +80,8 @@ impl Lists {
 
     /// Where the record of this name stands, or else where it belongs.
     pub(crate) fn place_of(&self, name: &Name) -> Result<usize, usize>
-        requires { Ascends self.now.now.published }
-        ensures { MatchResult result (StandsAt self.now.now.published name.now)
+        requires { NamesAscend self.now.now.published }
+        ensures { MatchResult result (RecordStandsAt self.now.now.published name.now)
             (BelongsAt self.now.now.published name.now) }
     {
         place_of(&self.records, name)
@@ -87,8 +89,9 @@ impl Lists {
 
     /// Whether the name is published or reserved.
     pub(crate) fn is_taken(&self, name: &Name) -> bool
-        requires { Ascends self.now.now.published }
-        ensures { MatchBool result (IsTaken self.now.now name.now) (IsFree self.now.now name.now) }
+        requires { NamesAscend self.now.now.published }
+        ensures { MatchBool result (IsNameTaken self.now.now name.now)
+            (IsFree self.now.now name.now) }
     {
         self.is_reserved(name) || self.place_of(name).is_ok()
     }
@@ -153,7 +156,7 @@ impl Lists {
     pub(crate) fn ended_at(&self, job: u32, name: &Name) -> Option<u32>
         requires few { length self.now.log ≤ log_bound }
         requires made { Any (IsReserving job name.now) (entries self.now.log) }
-        ensures { MatchOption result (IsHeld job name.now (entries self.now.log))
+        ensures { MatchOption result (IsNameHeld job name.now (entries self.now.log))
             (EndsAt job name.now (entries self.now.log)) }
     {
         end_of(&self.log, job, name)
@@ -172,7 +175,7 @@ impl Lists {
 
     /// Logs an entry that brings no record, and reserves nothing and ends no reservation.
     pub(crate) fn enter(&mut self, entry: IndexEntry)
-        requires quiet { IsQuiet entry }
+        requires quiet { ChangesNoName entry }
         requires room { length self.old.log < log_bound }
         ensures { self.new ≡ logged self.old (plain entry) }
     {
@@ -223,7 +226,7 @@ impl Lists {
 
     /// Gives the record at `at` a new current split. On refusal nothing changed.
     pub(crate) fn renew(&mut self, at: usize, job: u32, split: Split) -> Result<(), NoMemory>
-        requires ascends { Ascends self.old.now.published }
+        requires ascends { NamesAscend self.old.now.published }
         requires within { at < length self.old.now.published }
         requires few { HoldsAt (λ r. length r.older < 15) self.old.now.published at }
         requires room { length self.old.log < log_bound }

@@ -15,7 +15,8 @@ pub struct Split {
     pub places: Places,
 }
 
-/// A published file: its name, its length in bytes, its digest, and its splits. A record has 1 to 16 splits.
+/// A published file: its name, its length in bytes, its digest, and its splits. A record has 1 to
+/// 16 splits.
 #[derive(Drop)]
 pub struct Record {
     pub name: Name,
@@ -58,8 +59,8 @@ impl Record {
         })
     }
 
-    /// The split becomes the current one, and the old one goes to the end of the older ones. On refusal the record is as
-    /// before.
+    /// The split becomes the current one, and the old one goes to the end of the older ones. On
+    /// refusal the record is as before.
     pub(crate) fn renew(&mut self, split: Split) -> Result<(), NoMemory>
         requires { length self.old.older < 15 }
         ensures ok { OnOk result (self.new ≡ renewed self.old split) }

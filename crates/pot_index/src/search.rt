@@ -1,8 +1,8 @@
 //! Searches in the lists of an index.
 ghost use Rattle.std.specs.Prelude.{◌≡◌, MatchResult};
 ghost use Rattle.std.specs.List.{list_any, position};
-ghost use Rattle.pot_index.specs.Index.{Ascends, same_name, without};
-ghost use Rattle.pot_index.specs.Searches.{StandsAt, BelongsAt};
+ghost use Rattle.pot_index.specs.Index.{NamesAscend, same_name, without};
+ghost use Rattle.pot_index.specs.Searches.{RecordStandsAt, BelongsAt};
 
 use crate::record::Record;
 use crate::reservation::Reservation;
@@ -10,8 +10,9 @@ use pot_bytes::Name;
 
 /// Where the record of this name stands, or else where it belongs.
 pub(crate) fn place_of(records: &[Record], name: &Name) -> Result<usize, usize>
-    requires { Ascends records.now }
-    ensures { MatchResult result (StandsAt records.now name.now) (BelongsAt records.now name.now) }
+    requires { NamesAscend records.now }
+    ensures { MatchResult result (RecordStandsAt records.now name.now)
+        (BelongsAt records.now name.now) }
 {
     records.binary_search_by_key(name, |record| record.name)
 }

@@ -9,7 +9,8 @@ use std::mem;
 /// How many older splits a record has at most, beside the current one.
 pub(crate) const MOST_OLDER: usize = 15;
 
-/// The earlier splits of a record, the oldest first: at most 15. Contracts see the list of the splits.
+/// The earlier splits of a record, the oldest first: at most 15. Contracts see the list of the
+/// splits.
 #[derive(Drop)]
 pub struct Splits {
     splits: Vec<Split>,
@@ -62,8 +63,8 @@ impl Splits {
         Ok(Splits { splits })
     }
 
-    /// The current split, of this geometry and these places, becomes the last of the older ones, and other places stand
-    /// in its place. On refusal both are as before.
+    /// The current split, of this geometry and these places, becomes the last of the older ones,
+    /// and other places stand in its place. On refusal both are as before.
     pub(crate) fn add(
         &mut self,
         geometry: Geometry,

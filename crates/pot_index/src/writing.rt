@@ -9,8 +9,9 @@ use crate::spelling::{geometry_bytes, place_bytes};
 use pot_bytes::{Geometry, NoMemory, Place};
 use std::alloc::AllocError;
 
-/// Appends the record's bytes: its name under its length, the length of the file, the digest, the number of splits, and
-/// the splits, the current one last, each with its geometry and its places. On refusal `out` is as before.
+/// Appends the record's bytes: its name under its length, the length of the file, the digest, the
+/// number of splits, and the splits, the current one last, each with its geometry and its places.
+/// On refusal `out` is as before.
 ///
 /// # Errors
 /// Want of memory, where `out` has no room for them.

@@ -1,10 +1,13 @@
-//! What some shares fix at a point that none of them has: at each of their bytes, the value there of the one polynomial of
-//! degree below their number that goes through that byte of each.
+//! What some shares fix at a point that none of them has: at each of their bytes, the value there
+//! of the one polynomial of degree below their number that goes through that byte of each.
 //!
-//! It knows shares and points alone: no shard, no ring and no block. It takes no memory and refuses nothing.
+//! It knows shares and points alone: no shard, no ring and no block. It takes no memory and refuses
+//! nothing.
 //!
-//! 1. The share that other shares fix at a point is what they are joined to at the points turned by it: `share_at`.
-//! 2. Values lie on one polynomial of degree below m exactly where the first m of them fix the others: `join_laws`.
+//! 1. The share that other shares fix at a point is what they are joined to at the points turned by
+//!    it: `share_at`.
+//! 2. Values lie on one polynomial of degree below m exactly where the first m of them fix the
+//!    others: `join_laws`.
 #![tactic(auto)]
 
 mod laws;
@@ -17,8 +20,8 @@ pub use share::share_at;
 mod tests {
     use super::*;
 
-    /// A content byte of hexadecimal 57 with the coefficient 83, and one of 00 with the coefficients 10 and 01, computed
-    /// from the polynomials apart from this crate.
+    /// A content byte of hexadecimal 57 with the coefficient 83, and one of 00 with the
+    /// coefficients 10 and 01, computed from the polynomials apart from this crate.
     #[test]
     fn shares_fix_the_others(rt: HostRuntime) {
         let mut out = [0];

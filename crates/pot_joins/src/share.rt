@@ -7,10 +7,12 @@ ghost use Rattle.pot_split.specs.Threshold.{column};
 
 use pot_split::share_join;
 
-/// The share that other shares fix at a point: byte by byte the value there of the polynomial of degree below their
-/// number that goes through them. The shares stand row by row, one for each point.
+/// The share that other shares fix at a point: byte by byte the value there of the polynomial of
+/// degree below their number that goes through them. The shares stand row by row, one for each
+/// point.
 ///
-/// It is what they mean at the points + `at`, since there the polynomial turned by `at` goes through them.
+/// It is what they mean at the points + `at`, since there the polynomial turned by `at` goes
+/// through them.
 pub fn share_at(points: &[u8], shares: &[u8], at: u8, out: &mut [u8])
     requires some { 0 < length points.now }
     requires few { length points.now ≤ 16 }

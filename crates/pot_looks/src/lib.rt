@@ -3,10 +3,10 @@
 //!
 //! It knows no file and no desk: an archive is its bytes, and what should be in it a table says.
 //!
-//! 1. How many blocks a table calls live in an archive, instead of how many of them another block is
-//!    there, and of how many none: `look`.
-//! 2. Text is escaped as a page has it: `escape`. What is escaped has no `<`, `>` or `"`, and no two
-//!    texts are escaped to one: `escape_laws`.
+//! 1. How many blocks a table calls live in an archive, instead of how many of them another block
+//!    is there, and of how many none: `look`.
+//! 2. Text is escaped as a page has it: `escape`. What is escaped has no `<`, `>` or `"`, and no
+//!    two texts are escaped to one: `escape_laws`.
 //! 3. Days by the calendar, `date_text` and `days_between`, and lines of paper, `append_paragraph`.
 #![tactic(auto)]
 

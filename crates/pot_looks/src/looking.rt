@@ -3,8 +3,8 @@ ghost use Rattle.std.specs.Prelude.{◌<◌, ◌≡◌, ◌-◌, ◌^◌, ◌↔
 ghost use Rattle.pot_machine.specs.Table.{width};
 ghost use Rattle.pot_bytes.specs.Digests.{digest_bytes};
 ghost use Rattle.pot_bytes.specs.declared.digest.Digest.{Digest};
-ghost use Rattle.pot_looks.specs.Looks.{IsAsked, IsCompared, IsHeld, IsLooked, IsSeen};
-ghost use Rattle.pot_looks.specs.Looks.{with_seen, Sight};
+ghost use Rattle.pot_looks.specs.Looks.{IsAsked, IsCompared, IsHeldInFile, IsLooked, IsSeen};
+ghost use Rattle.pot_looks.specs.Looks.{with_seen, ArchiveSight};
 
 use pot_bytes::{Digest, digest_of};
 use pot_machine::{GroupTable, SlotState};
@@ -143,8 +143,8 @@ fn is_of(block: &[u8], digest: &Digest) -> bool
 
 /// The block that the file of an archive has at a slot.
 fn block_in(bytes: &[u8], stripe: u32) -> Option<&[u8]>
-    ensures { MatchOption result ((block : List ℕ) → ¬ IsHeld bytes.now stripe block)
-        (λ block. IsHeld bytes.now stripe block.now) }
+    ensures { MatchOption result ((block : List ℕ) → ¬ IsHeldInFile bytes.now stripe block)
+        (λ block. IsHeldInFile bytes.now stripe block.now) }
 {
     let start = stripe as usize * SLOT;
     if bytes.len() < start + SLOT || bytes[start] != 1 {

@@ -45,8 +45,8 @@ abbrev pub TakesBroke : Table → ℕ → ℕ → Type 0
 TakesBroke t s c = IsTrue (is_live (slot_at t s c)) ⊎ IsTrue (is_lost (slot_at t s c))
 
 -- the slot is Lost, or is Broken and there is one parity column
-abbrev pub IsRebuilt : Table → ℕ → ℕ → Type 0
-IsRebuilt t s c =
+abbrev pub MayBeRebuilt : Table → ℕ → ℕ → Type 0
+MayBeRebuilt t s c =
     IsTrue (is_lost (slot_at t s c)) ⊎ (IsTrue (is_broken (slot_at t s c)) × (t.parity ≡ 1))
 
 -- the stripe has no relay; no other slot is Broken, and fewer other slots are Lost than there are
@@ -54,7 +54,7 @@ IsRebuilt t s c =
 abbrev pub TakesRelay : Table → ℕ → ℕ → Type 0
 TakesRelay t s c =
     InRange t s c
-    × IsRebuilt t s c
+    × MayBeRebuilt t s c
     × (relay_at t s ≡ None)
     × (first_beside t s c is_broken ≡ None)
     × (count_beside t s c is_lost < t.parity)
@@ -65,8 +65,8 @@ abbrev pub GoesTo : Table → ℕ → ℕ → Type 0
 GoesTo t s c = IsSomeAnd (relay_at t s) (λ r. next_column t r ≡ Some c)
 
 -- the stripe has a relay with this target, and this is its next column, if there is one
-abbrev pub StandsAt : Table → ℕ → ℕ → Option ℕ → Type 0
-StandsAt t s c next = IsSomeAnd (relay_at t s) (λ r. (r.target ≡ c) × (next_column t r ≡ next))
+abbrev pub RelayStandsAt : Table → ℕ → ℕ → Option ℕ → Type 0
+RelayStandsAt t s c next = IsSomeAnd (relay_at t s) (λ r. (r.target ≡ c) × (next_column t r ≡ next))
 
 -- why no relay can begin at an unsound slot, whatever else stands. Where there are two parity
 -- columns and the stripe has a Broken slot, it is the least such one. Else it is the least of the
@@ -94,10 +94,10 @@ Legal t (Broke job s c) = (job ≡ 0) × InRange t s c × TakesBroke t s c
 Legal t (Fault job s c) = InRange t s c
 Legal t (Begin job s c) = TakesRelay t s c
 Legal t (Hop job s c) = InRange t s c × GoesTo t s c × IsTrue (is_live (slot_at t s c))
-Legal t (Mended job s c) = InRange t s c × StandsAt t s c None
-Legal t (GaveUp job s c other) = InRange t s c × StandsAt t s c (Some other)
+Legal t (Mended job s c) = InRange t s c × RelayStandsAt t s c None
+Legal t (GaveUp job s c other) = InRange t s c × RelayStandsAt t s c (Some other)
 Legal t (Oddly job s c found) =
-    InRange t s c × StandsAt t s c None × (digest_in (slot_at t s c) ≢ Some found)
+    InRange t s c × RelayStandsAt t s c None × (digest_in (slot_at t s c) ≢ Some found)
 Legal t (Stuck job s c other) =
     InRange t s c × IsTrue (is_unsound (slot_at t s c)) × (relay_at t s ≡ None)
     × (stuck_by t s c ≡ Some other)

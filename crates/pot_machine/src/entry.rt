@@ -3,11 +3,11 @@ use pot_bytes::Digest;
 
 /// An entry of a group's log.
 ///
-/// `job` is the number of the job that logged it, 0 for the opening. `stripe` and `column` name the slot that it speaks
-/// of. `digest` is that of the block that was put, `parity_digest` and `second_digest` are those of the new blocks of P
-/// and Q, and `kept` and `kept2` say whether these were written. `other` is the column that was in the way, `found` the
-/// digest of the block that a relay came to, `to` the number of an archive, and `copied` says whether the block was
-/// copied.
+/// `job` is the number of the job that logged it, 0 for the opening. `stripe` and `column` name the
+/// slot that it speaks of. `digest` is that of the block that was put, `parity_digest` and
+/// `second_digest` are those of the new blocks of P and Q, and `kept` and `kept2` say whether these
+/// were written. `other` is the column that was in the way, `found` the digest of the block that a
+/// relay came to, `to` the number of an archive, and `copied` says whether the block was copied.
 #[derive(Clone, Copy, PartialEq, Eq, Debug)]
 pub enum Entry {
     /// A block was put, and the one parity block changed.

@@ -6,7 +6,8 @@ ghost use Rattle.pot_machine.specs.Laws.{ReplayedOnce};
 ghost use Rattle.pot_machine.specs.Laws.{LogsComeTo, LogsComeOn, OwnInBoth, DigestsByPuts};
 ghost use Rattle.pot_machine.specs.Laws.{PutsStay};
 
-/// What each entry leaves alone, how logs go on and where they lead, and what a put fills. It does nothing.
+/// What each entry leaves alone, how logs go on and where they lead, and what a put fills. It does
+/// nothing.
 pub fn machine_laws()
     ensures sizes { SizesStay }
     ensures slots { SlotsStay }

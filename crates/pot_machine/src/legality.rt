@@ -2,7 +2,8 @@
 ghost use Rattle.std.specs.Prelude.{◌≡◌, ◌<◌, ◌↔◌, IsTrue};
 ghost use Rattle.pot_machine.specs.Table.{width};
 ghost use Rattle.pot_machine.specs.Machine.{InRange, AtCursor, TakesBlocks, TakesPut, TakesSkip};
-ghost use Rattle.pot_machine.specs.Machine.{TakesBroke, IsRebuilt, TakesRelay, GoesTo, StandsAt};
+ghost use Rattle.pot_machine.specs.Machine.{TakesBroke, MayBeRebuilt, TakesRelay, GoesTo};
+ghost use Rattle.pot_machine.specs.Machine.{RelayStandsAt};
 ghost use Rattle.pot_machine.specs.Machine.{TakesArchive, MovesAt, stuck_by, Legal};
 
 use crate::entry::Entry;
@@ -58,7 +59,7 @@ impl Parts {
 
     fn is_rebuilt(&self, stripe: u32, column: u8) -> bool
         requires { InRange self.now stripe column }
-        ensures { IsTrue result ↔ IsRebuilt self.now stripe column }
+        ensures { IsTrue result ↔ MayBeRebuilt self.now stripe column }
     {
         let slot = self.slot(stripe, column);
         slot.meets(Condition::Lost) || slot.meets(Condition::Broken) && self.parity == 1
@@ -76,7 +77,7 @@ impl Parts {
 
     fn stands_at(&self, stripe: u32, column: u8, next: Option<u8>) -> bool
         requires { stripe < self.now.stripes }
-        ensures { IsTrue result ↔ StandsAt self.now stripe column next }
+        ensures { IsTrue result ↔ RelayStandsAt self.now stripe column next }
     {
         match self.relay(stripe) {
             None => false,

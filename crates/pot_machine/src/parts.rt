@@ -1,5 +1,5 @@
-//! The parts of a table: its sizes, and lists of the lengths that they ask for. What stands in the lists is not ruled
-//! here.
+//! The parts of a table: its sizes, and lists of the lengths that they ask for. What stands in the
+//! lists is not ruled here.
 ghost use Rattle.std.specs.Prelude.{◌≡◌, ◌<◌, ◌≤◌, ◌+◌, ◌*◌, ℕ, IfSome};
 ghost use Rattle.pot_machine.specs.Table.{width, slot_at, column_at, relay_at, first, first_beside};
 ghost use Rattle.pot_machine.specs.Table.{count_beside, skipped, is_after, is_ahead, next_column};
@@ -12,8 +12,8 @@ use crate::relay::Relay;
 use crate::slot::{Condition, SlotState};
 use std::marker::Model;
 
-/// The parts of a table. Its type keeps that the sizes are within the limits, that the lists are as long as they ask for,
-/// and that there is room for 16 relays.
+/// The parts of a table. Its type keeps that the sizes are within the limits, that the lists are as
+/// long as they ask for, and that there is room for 16 relays.
 #[derive(Drop)]
 pub(crate) struct Parts {
     pub(crate) data_columns: u8,

@@ -17,7 +17,8 @@ use pot_bytes::{NoMemory, Rack};
 use std::alloc::Global;
 use std::marker::Model;
 
-/// The table of a group. Contracts see a record of its sizes, its cursor, its columns, its slots and its relays.
+/// The table of a group. Contracts see a record of its sizes, its cursor, its columns, its slots
+/// and its relays.
 #[derive(Drop)]
 pub struct GroupTable {
     parts: Parts,
@@ -36,8 +37,9 @@ impl Model for GroupTable {
 }
 
 impl GroupTable {
-    /// The table of a new group: no slot is used, the cursor is at the first place, and column c has the archive of
-    /// number group·w + c as its home, where w is the number of columns of a group.
+    /// The table of a new group: no slot is used, the cursor is at the first place, and column c
+    /// has the archive of number group·w + c as its home, where w is the number of columns of a
+    /// group.
     pub fn empty(alloc: Global, rack: &Rack, group: u8) -> Result<GroupTable, NoMemory>
         requires rack { IsRack rack.now }
         requires group { group < rack.now.groups }
@@ -126,8 +128,8 @@ impl GroupTable {
         self.parts.relay(stripe)
     }
 
-    /// The column that a relay goes over next: the least one above its last that is neither its target nor the column
-    /// that it goes without, and whose slot is not Void.
+    /// The column that a relay goes over next: the least one above its last that is neither its
+    /// target nor the column that it goes without, and whose slot is not Void.
     pub fn next_column(&self, relay: Relay) -> Option<u8>
         requires { relay.stripe < self.now.stripes }
         ensures { result ≡ next_column self.now relay }
@@ -135,8 +137,8 @@ impl GroupTable {
         self.parts.next_column(relay)
     }
 
-    /// The other column for which `Stuck` is legal at a slot that is Lost or Broken in a stripe without a relay. It is
-    /// `None` where a relay could begin there but for the number of relays.
+    /// The other column for which `Stuck` is legal at a slot that is Lost or Broken in a stripe
+    /// without a relay. It is `None` where a relay could begin there but for the number of relays.
     pub fn stuck_by(&self, stripe: u32, column: u8) -> Option<u8>
         requires { stripe < self.now.stripes }
         ensures { result ≡ stuck_by self.now stripe column }
@@ -160,8 +162,8 @@ impl GroupTable {
         self.parts.slot(stripe, column)
     }
 
-    /// The number of the archive that serves a slot: the target of the column's move for stripes below its position,
-    /// else the column's home.
+    /// The number of the archive that serves a slot: the target of the column's move for stripes
+    /// below its position, else the column's home.
     pub fn archive_of(&self, stripe: u32, column: u8) -> u32
         requires { column < width self.now }
         ensures { result ≡ serving_at self.now stripe column }
@@ -184,7 +186,8 @@ impl GroupTable {
         self.parts.apply(entry);
     }
 
-    /// Applies the longest front of the entries of which each is legal in turn, and says whether that is all of them.
+    /// Applies the longest front of the entries of which each is legal in turn, and says whether
+    /// that is all of them.
     pub fn replay(&mut self, entries: &[Entry]) -> bool
         ensures { Replayed self.old self.new entries.now result }
     {

@@ -38,7 +38,7 @@ use Rattle.pot_shared.specs.UseCalls.{TraceCall, TracesAll, first_home}
 use Rattle.pot_shared.proofs.MemberLemmas.{entries_kept}
 use Rattle.pot_shared.specs.Works.{of_job, gained, known, IsSettingOf}
 use Rattle.pot_shared.proofs.WorkLemmas.{all_none, own_entries}
-use Rattle.pot_mend.specs.Moves.{IsAsked, MigrateChecked, ReplaceChecked, seen_in}
+use Rattle.pot_mend.specs.Moves.{IsOnlyAsked, MigrateChecked, ReplaceChecked, seen_in}
 use Rattle.pot_mend.specs.declared.checking.UseFault.TheVariants as used
 use Rattle.pot_mend.proofs.HadLemmas.{IsUsedIn, had_used, home_named, named_held, target_named, used_had}
 
@@ -188,7 +188,7 @@ module _ (told : Type 0) (rack : Rack) (turns : List TurnName) (from to : ℕ) (
       (more_has_none (of_job job) (view_at old g) (view_at old g) (knows_same (view_at old g)) (subst (λ (v : GroupPass). OnlyWriterOf (of_job job) (view_at old g) v) same (alone g))))
       (cases_lt g (length traces.answers)))
 
-  pub all_asked : IsAsked old new
+  pub all_asked : IsOnlyAsked old new
   all_asked = record { worked = asked_work; silent = asked_none }
 
   -- THE HOME

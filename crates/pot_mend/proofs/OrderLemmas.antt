@@ -1,6 +1,6 @@
 -- Places in order.
 use Rattle.std.proofs.Common.{◌≡◌, ◌<◌, ◌≤◌, ◌⊎◌, inl, inr, ⊎_elim, ℕ, ◌+◌, List, [], ◌∷◌, ◌++◌, arith}
-use Rattle.pot_replies.specs.Jobs.{Precedes, AscendFrom, Ascend}
+use Rattle.pot_replies.specs.Jobs.{Precedes, PlacesAscendFrom, Ascend}
 
 -- a place is at another or comes after it
 abbrev pub AtOrAfter : ℕ × ℕ → ℕ × ℕ → Type 0
@@ -54,7 +54,7 @@ before_next n k s c (inr (e, lt)) = ⊎_elim
 
 -- LISTS OF PLACES THAT ASCEND
 
-from_later : (p : ℕ × ℕ) (ps : List (ℕ × ℕ)) (q r : ℕ × ℕ) → AscendFrom p (ps ++ q ∷ []) → AtOrAfter q r → AscendFrom p (ps ++ r ∷ [])
+from_later : (p : ℕ × ℕ) (ps : List (ℕ × ℕ)) (q r : ℕ × ℕ) → PlacesAscendFrom p (ps ++ q ∷ []) → AtOrAfter q r → PlacesAscendFrom p (ps ++ r ∷ [])
 from_later p [] q r h after = (precedes_more p q r h.0 after, tt)
 from_later p (x ∷ ps) q r h after = (h.0, from_later x ps q r h.1 after)
 
@@ -63,7 +63,7 @@ pub ascend_later : (ps : List (ℕ × ℕ)) (q r : ℕ × ℕ) → Ascend (ps ++
 ascend_later [] q r h after = tt
 ascend_later (p ∷ ps) q r h after = from_later p ps q r h after
 
-from_more : (p : ℕ × ℕ) (ps : List (ℕ × ℕ)) (q r : ℕ × ℕ) → AscendFrom p (ps ++ q ∷ []) → Precedes q r → AscendFrom p ((ps ++ q ∷ []) ++ r ∷ [])
+from_more : (p : ℕ × ℕ) (ps : List (ℕ × ℕ)) (q r : ℕ × ℕ) → PlacesAscendFrom p (ps ++ q ∷ []) → Precedes q r → PlacesAscendFrom p ((ps ++ q ∷ []) ++ r ∷ [])
 from_more p [] q r h before = (h.0, (before, tt))
 from_more p (x ∷ ps) q r h before = (h.0, from_more x ps q r h.1 before)
 
@@ -72,7 +72,7 @@ pub ascend_more : (ps : List (ℕ × ℕ)) (q r : ℕ × ℕ) → Ascend (ps ++ 
 ascend_more [] q r h before = (before, tt)
 ascend_more (p ∷ ps) q r h before = from_more p ps q r h before
 
-from_front : (p : ℕ × ℕ) (ps : List (ℕ × ℕ)) (q : ℕ × ℕ) → AscendFrom p (ps ++ q ∷ []) → AscendFrom p ps
+from_front : (p : ℕ × ℕ) (ps : List (ℕ × ℕ)) (q : ℕ × ℕ) → PlacesAscendFrom p (ps ++ q ∷ []) → PlacesAscendFrom p ps
 from_front p [] q h = tt
 from_front p (x ∷ ps) q h = (h.0, from_front x ps q h.1)
 

@@ -24,7 +24,7 @@ use Rattle.pot_shared.specs.Calls.{CallAt, CallTurn}
 use Rattle.pot_shared.specs.MendCalls.{GoesOn, MendTurns, MendsPlace, begins, blind_at, drawn, mends, passes, total}
 use Rattle.pot_shared.proofs.CallLemmas.{ready_again, set_twice}
 use Rattle.pot_replies.specs.Jobs.{is_relay, is_mended, is_left, is_stuck_at, Precedes}
-use Rattle.pot_shared.specs.Adds.{Adds, Fails, FailsOnce}
+use Rattle.pot_shared.specs.Adds.{Adds, FailsTest, FailsOnce}
 use Rattle.pot_shared.specs.Blinds.{is_begin}
 use Rattle.pot_shared.specs.Works.{of_job}
 use Rattle.pot_shared.proofs.AddLemmas.{adds_then, once_back, once_front}
@@ -32,7 +32,7 @@ use Rattle.pot_shared.proofs.WorkLemmas.{row_stays}
 use Rattle.pot_mend.specs.declared.fault.MendFault.{MendFault}
 use Rattle.pot_mend.specs.declared.fault.MendFault.TheVariants as fault
 use Rattle.pot_mend.specs.declared.repairing.Repaired.{Repaired}
-use Rattle.pot_mend.specs.Repairs.{NotOdd, AreRepairs, WasLeft, IsDone, EndsPlace, RepairSofar, RepairFails, RepairFills, RepairsPlace}
+use Rattle.pot_mend.specs.Repairs.{NotOdd, AreRepairs, WasLeft, IsPlaceDone, EndsPlace, RepairSofar, RepairFails, RepairFills, RepairsPlace}
 use Rattle.pot_mend.proofs.OrderLemmas.{AtOrAfter, before_next, not_before}
 use Rattle.pot_mend.proofs.EntryLemmas.{count_one, one_in}
 use Rattle.pot_mend.proofs.RepairLemmas.{MayCome, left_more, none_stuck_at, not_odd_more, not_odd_none, repairs_more, repairs_wider}
@@ -56,7 +56,7 @@ pub record PlaceSofar (job : ℕ) (p : Place) (mended left draws : ℕ) (old now
   pub are : AreRepairs job entries (here p) (behind p) mended left draws
   pub spare : length (filter is_begin entries) < draws
   pub not_odd : NotOdd job entries p.stripe p.column
-  pub done : (n k : ℕ) → Precedes (n, k) (here p) → IsDone entries job n k p.group old now
+  pub done : (n k : ℕ) → Precedes (n, k) (here p) → IsPlaceDone entries job n k p.group old now
 
 -- nothing was done for it yet
 pub place_begin : (job : ℕ) (p : Place) (mended left draws : ℕ) (u v : GroupPasses) → RepairSofar job p.group p.stripe p.column mended left draws u v
@@ -72,10 +72,10 @@ place_begin job p mended left draws u v sofar = record {
 
 module _ (job : ℕ) (p : Place) (mended left draws : ℕ) (u v w : GroupPasses) (sofar : PlaceSofar job p mended left draws u v) where
   -- what was done is done, with more entries
-  still_done : (more : List Entry) → Adds job p.group more v w → (n k : ℕ) → Precedes (n, k) (here p) → IsDone (sofar.entries ++ more) job n k p.group u w
+  still_done : (more : List Entry) → Adds job p.group more v w → (n k : ℕ) → Precedes (n, k) (here p) → IsPlaceDone (sofar.entries ++ more) job n k p.group u w
   still_done more adds n k before = ⊎_elim
       (λ (was : WasLeft sofar.entries job n k). inl (left_more sofar.entries more job n k was))
-      (λ (failed : FailsOnce is_unsound n k p.group u v). inr (once_front job p.group u v w sofar.adds.worked adds.worked (Fails is_unsound n k) failed))
+      (λ (failed : FailsOnce is_unsound n k p.group u v). inr (once_front job p.group u v w sofar.adds.worked adds.worked (FailsTest is_unsound n k) failed))
       (sofar.done n k before)
 
   -- ONE STEP THAT GOES ON
@@ -105,12 +105,12 @@ module _ (job : ℕ) (p : Place) (mended left draws : ℕ) (u v w : GroupPasses)
     }
 
   -- THE LAST STEP
-  ends_done : (more : List Entry) → Adds job p.group more v w → IsDone (sofar.entries ++ more) job p.stripe p.column p.group u w
-      → (n k : ℕ) → Precedes (n, k) (behind p) → IsDone (sofar.entries ++ more) job n k p.group u w
+  ends_done : (more : List Entry) → Adds job p.group more v w → IsPlaceDone (sofar.entries ++ more) job p.stripe p.column p.group u w
+      → (n k : ℕ) → Precedes (n, k) (behind p) → IsPlaceDone (sofar.entries ++ more) job n k p.group u w
   ends_done more adds last n k before = ⊎_elim
       (λ (low : Precedes (n, k) (here p)). still_done more adds n k low)
       (λ (at : (n ≡ p.stripe) × (k ≡ p.column)).
-      subst (λ m. IsDone (sofar.entries ++ more) job m k p.group u w) (sym at.0) (subst (λ m. IsDone (sofar.entries ++ more) job p.stripe m p.group u w) (sym at.1) last))
+      subst (λ m. IsPlaceDone (sofar.entries ++ more) job m k p.group u w) (sym at.0) (subst (λ m. IsPlaceDone (sofar.entries ++ more) job p.stripe m p.group u w) (sym at.1) last))
       (before_next n k p.stripe p.column before)
 
   -- it was left
@@ -154,8 +154,8 @@ module _ (job : ℕ) (p : Place) (mended left draws : ℕ) (u v w : GroupPasses)
         entries = sofar.entries;
         adds = subst (λ es. Adds job p.group es u w) none (adds_then job p.group sofar.entries [] u v w sofar.adds adds);
         are = repairs_wider job sofar.entries (here p) (behind p) (behind p) (behind p) mended left draws sofar.are (at_behind p) (inr (refl, omega arith)) draws (omega arith);
-        done = λ n k before. subst (λ es. IsDone es job n k p.group u w) none
-            (ends_done [] adds (inr (once_back job p.group u v w sofar.adds.worked adds.worked (Fails is_unsound p.stripe p.column) failed)) n k before);
+        done = λ n k before. subst (λ es. IsPlaceDone es job n k p.group u w) none
+            (ends_done [] adds (inr (once_back job p.group u v w sofar.adds.worked adds.worked (FailsTest is_unsound p.stripe p.column) failed)) n k before);
       }
 
   pub place_fails : (column stripe : ℕ) → Adds job p.group (entry.Fault job stripe column ∷ []) v w → RepairFails job p.group column draws u w

@@ -19,7 +19,7 @@ use Rattle.pot_machine.proofs.Logs.{replays_is, back_replays, front_replays}
 use Rattle.pot_replies.specs.Jobs.{is_move_begin, EachIs}
 use Rattle.pot_replies.specs.Sections.{JobsAscend, Section}
 use Rattle.pot_replies.specs.Settings.{Setting}
-use Rattle.pot_replies.specs.Moves.{BeganElsewhere, Begins, IsMigrated, IsMigrateFault, IsStepLogFull, moving_at}
+use Rattle.pot_replies.specs.Moves.{BeganElsewhere, BeginsMove, IsMigrated, IsMigrateFault, IsStepLogFull, moving_at}
 use Rattle.pot_mend.specs.Moves.{IsMoved, IsMoveFault, IsMoveLogFull}
 use Rattle.pot_mend.proofs.HadLemmas.{move_ended}
 use Rattle.pot_mend.proofs.MoveLemmas.{kept_in}
@@ -27,7 +27,7 @@ use Rattle.pot_mend.proofs.MoveLemmas.{kept_in}
 -- THE ROWS
 
 module _ (s : Setting) (before begun : ℕ → List Entry) (job from to g c : ℕ) (w : Section)
-    (begins : Begins s before begun job from to g c) (elsewhere : BeganElsewhere s before begun job from to g) where
+    (begins : BeginsMove s before begun job from to g c) (elsewhere : BeganElsewhere s before begun job from to g) where
   -- where the column moves when the work begins, and nobody swaps its home meanwhile
   pub migrated_is : (slots : ℕ) → IsMoved s job g c slots w → IsSome (moving_at s w.before g c) → ((by n : ℕ) → Contains (w.added g) (Swapped by c n) → ⊥)
       → IsMigrated s before begun job from to slots w
@@ -123,7 +123,7 @@ module _ (s : Setting) (before begun : ℕ → List Entry) (job from to g c : �
   back_kinds : (x y : List Entry) → begun g ≡ x ++ y → EachIs is_move_begin y
   back_kinds x y is e h = kinds e (subst (λ l. Contains l e) (sym is) (Contains-append_right x y e h))
 
-  pub begins_moves : Begins s before begun job from to g c → IsSome (moving_at s (λ h. before h ++ begun h) g c)
+  pub begins_moves : BeginsMove s before begun job from to g c → IsSome (moving_at s (λ h. before h ++ begun h) g c)
   begins_moves (inl (may, own_is)) =
       let e : Entry = MoveBegin job c to in
       let there : Contains (begun g) e = kept_in (is_of job) (begun g) e (subst (λ es. Contains es e) (sym own_is) (0, omega arith, refl)) in

@@ -23,15 +23,15 @@ use Rattle.pot_shared.specs.MendCalls.{drawn}
 use Rattle.pot_replies.specs.Jobs.{is_mended, is_left, is_stuck_at, Precedes}
 use Rattle.pot_replies.specs.Sections.{Section}
 use Rattle.pot_replies.specs.Settings.{Setting}
-use Rattle.pot_replies.specs.Fetches.{Mends}
+use Rattle.pot_replies.specs.Fetches.{MendsOnce}
 use Rattle.pot_replies.specs.Scrubs.{AreRelays, IsRepaired, IsRepairFault, IsRepairLogFull}
 use Rattle.pot_shared.specs.Works.{of_job, gained, known, section_of, IsSettingOf}
 use Rattle.pot_mend.specs.declared.fault.MendFault.{MendFault}
 use Rattle.pot_mend.specs.declared.fault.MendFault.TheVariants as fault
 use Rattle.pot_mend.specs.declared.repairing.Repaired.{Repaired}
-use Rattle.pot_shared.specs.Adds.{Adds, Fails, FailsOnce, FindsNext, IsFromOn, IsNextOf}
+use Rattle.pot_shared.specs.Adds.{Adds, FailsTest, FailsOnce, FindsNext, IsFromOn, IsNextOf}
 use Rattle.pot_shared.specs.Blinds.{Blinds, is_begin, most_dropped}
-use Rattle.pot_mend.specs.Repairs.{NoneAgain, AreRepairs, WasLeft, IsDone, RepairSofar, RepairFails, RepairFills, RepairsPlace, Draws, RepairRow}
+use Rattle.pot_mend.specs.Repairs.{NoneAgain, AreRepairs, WasLeft, IsPlaceDone, RepairSofar, RepairFails, RepairFills, RepairsPlace, Draws, RepairRow}
 use Rattle.pot_mend.proofs.OrderLemmas.{AtOrAfter, before_or_after, none_before}
 use Rattle.pot_mend.proofs.EntryLemmas.{count_one}
 use Rattle.pot_shared.proofs.AddLemmas.{adds_none, adds_then, next_adds, next_finds, next_from, next_group, once_back, once_front}
@@ -93,9 +93,9 @@ module _ (job g s c mended left draws : ℕ) (u v w : GroupPasses) (sofar : Repa
   same_adds : Adds job g sofar.entries u w
   same_adds = subst (λ es. Adds job g es u w) (append-nil sofar.entries) (adds_then job g sofar.entries [] u v w sofar.adds more)
 
-  still : (n k : ℕ) → IsDone sofar.entries job n k g u v → IsDone sofar.entries job n k g u w
+  still : (n k : ℕ) → IsPlaceDone sofar.entries job n k g u v → IsPlaceDone sofar.entries job n k g u w
   still n k (inl was) = inl was
-  still n k (inr failed) = inr (once_front job g u v w sofar.adds.worked more.worked (Fails is_unsound n k) failed)
+  still n k (inr failed) = inr (once_front job g u v w sofar.adds.worked more.worked (FailsTest is_unsound n k) failed)
 
   -- the next place was found: each before it is done
   pub repair_found : (p : Place) → FindsNext is_unsound s c (Some p) g v w → IsFromOn s c p → RepairSofar job g p.stripe p.column mended left draws u w
@@ -105,7 +105,7 @@ module _ (job g s c mended left draws : ℕ) (u v w : GroupPasses) (sofar : Repa
     are = repairs_wider job sofar.entries (s, c) (s, c) (p.stripe, p.column) (p.stripe, p.column) mended left draws sofar.are from from draws (omega arith);
     done = λ n k before. ⊎_elim
         (λ (low : Precedes (n, k) (s, c)). still n k (sofar.done n k low))
-        (λ (at : AtOrAfter (s, c) (n, k)). inr (once_back job g u v w sofar.adds.worked more.worked (Fails is_unsound n k) (passed n k at before)))
+        (λ (at : AtOrAfter (s, c) (n, k)). inr (once_back job g u v w sofar.adds.worked more.worked (FailsTest is_unsound n k) (passed n k at before)))
         (before_or_after n k s c);
   }
     where
@@ -115,10 +115,10 @@ module _ (job g s c mended left draws : ℕ) (u v w : GroupPasses) (sofar : Repa
           (x, y, parts, λ in_stripes in_columns. next.2.1.2 n k ((subst (λ m. n < m) (sym next.0) in_stripes, subst (λ m. k < m) (sym next.1) in_columns), at) before)
 
   -- none was found: each is done
-  pub repair_none : FindsNext is_unsound s c None g v w → (n k : ℕ) → IsDone sofar.entries job n k g u w
+  pub repair_none : FindsNext is_unsound s c None g v w → (n k : ℕ) → IsPlaceDone sofar.entries job n k g u w
   repair_none finds n k = ⊎_elim
       (λ (low : Precedes (n, k) (s, c)). still n k (sofar.done n k low))
-      (λ (at : AtOrAfter (s, c) (n, k)). inr (once_back job g u v w sofar.adds.worked more.worked (Fails is_unsound n k) (rest n k at)))
+      (λ (at : AtOrAfter (s, c) (n, k)). inr (once_back job g u v w sofar.adds.worked more.worked (FailsTest is_unsound n k) (rest n k at)))
       (before_or_after n k s c)
     where
       rest : (n k : ℕ) → AtOrAfter (s, c) (n, k) → FailsOnce is_unsound n k g v w
@@ -128,7 +128,7 @@ module _ (job g s c mended left draws : ℕ) (u v w : GroupPasses) (sofar : Repa
 
 -- WHAT THE LISTS SAY
 
-mends_are : (job : ℕ) (added es : List Entry) → own job added ≡ es → ((n k : ℕ) → length (filter (is_stuck_at n k) es) ≤ 1) → NoneAgain job es → Mends job added
+mends_are : (job : ℕ) (added es : List Entry) → own job added ≡ es → ((n k : ℕ) → length (filter (is_stuck_at n k) es) ≤ 1) → NoneAgain job es → MendsOnce job added
 mends_are job added es are one_stuck none_again = record {
   one_stuck = λ s c. subst (λ l. length (filter (is_stuck_at s c) l) ≤ 1) (sym are) (one_stuck s c);
   none_again = λ s c f x between y z at quiet. none_again s c f (own job x) (own job between) (own job y) (own job z)

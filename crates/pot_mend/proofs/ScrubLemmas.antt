@@ -15,9 +15,9 @@ use Rattle.pot_group.specs.declared.answers.Looked.{Looked}
 use Rattle.pot_group.specs.declared.answers.Looked.TheVariants as looked
 use Rattle.pot_group.specs.declared.sweeping.Reached.TheVariants as reached
 use Rattle.pot_group.specs.declared.sweeping.Swept.{Swept}
-use Rattle.pot_group.specs.Finding.{IsNext}
+use Rattle.pot_group.specs.Finding.{IsNextPlace}
 use Rattle.pot_group.specs.Group.{GroupView}
-use Rattle.pot_group.specs.Sweeping.{IsReached, Look, LooksOn, SweepCall}
+use Rattle.pot_group.specs.Sweeping.{IsSweepReached, Look, LooksOn, SweepCall}
 use Rattle.pot_turn.specs.declared.name.TurnName.{TurnName}
 use Rattle.pot_worked.specs.Laws.{AllOf}
 use Rattle.pot_rows.specs.Rows.{view_at}
@@ -27,7 +27,7 @@ use Rattle.pot_shared.specs.Members.{entries_of}
 use Rattle.pot_shared.specs.Ready.{GroupPasses, AreReady}
 use Rattle.pot_shared.specs.Calls.{CallAt}
 use Rattle.pot_shared.specs.Catalogs.{IndexPasses}
-use Rattle.pot_shared.specs.Adds.{Adds, IsFirst}
+use Rattle.pot_shared.specs.Adds.{Adds, IsFirstTableSeen}
 use Rattle.pot_shared.specs.Works.{of_job, gained, known, section_of, IsSettingOf}
 use Rattle.pot_shared.proofs.AddLemmas.{adds_call, adds_none, adds_then, both_gained, its_gain, left_bound, left_long, met_table, seen_parts}
 use Rattle.pot_shared.proofs.WorkLemmas.{gained_none}
@@ -50,7 +50,7 @@ pub record ScrubSofar (job g s c seen gone : ℕ) (old now : GroupPasses) : Type
   pub seen_is : seen ≡ length (filter is_seen entries)
   pub gone_is : gone ≡ length (filter is_gone entries)
   pub both : seen + gone ≡ length entries
-  pub on : (first : Table) → IsFirst g old first → RowOnlyWriterOf (of_job job) old now
+  pub on : (first : Table) → IsFirstTableSeen g old first → RowOnlyWriterOf (of_job job) old now
       → ScrubOn job s c entries first (entries_of (view_at old g).seen) (gained old now g)
 
 pub scrub_begin : (job g : ℕ) (row : GroupPasses) → AllIdle row → ScrubSofar job g 0 0 0 0 row row
@@ -72,7 +72,7 @@ module _ (st : Setting) (job g : ℕ) (rack : Rack) (u w : GroupPasses) (ui wi :
   its = section_of (known u ui) (known w wi)
 
   -- no slot is left
-  scrubbed_row : (s c seen gone : ℕ) → ScrubSofar job g s c seen gone u w → IsNext (replayed (st.first g) (its.before g ++ its.added g)) is_live s c None → IsScrubbed st job g seen gone its
+  scrubbed_row : (s c seen gone : ℕ) → ScrubSofar job g s c seen gone u w → IsNextPlace (replayed (st.first g) (its.before g ++ its.added g)) is_live s c None → IsScrubbed st job g seen gone its
   scrubbed_row s c seen gone sofar none =
       let on : ScrubOn job s c sofar.entries (st.first g) (its.before g) (its.added g) = sofar.on (st.first g) (set.first g within) alone in
       let are : own job (its.added g) ≡ sofar.entries = sofar.adds.own_is alone in
@@ -184,7 +184,7 @@ module _ {told : Type 0} {job : ℕ} {rack : Rack} {names : List TurnName} {g s 
       omega (arith, both, most, seen_is, gone_is, grew, parts, bound)
 
   -- where nobody else logged an entry of the job
-  module _ (first : Table) (read : IsFirst g u first) (alone : RowOnlyWriterOf (of_job job) u w) where
+  module _ (first : Table) (read : IsFirstTableSeen g u first) (alone : RowOnlyWriterOf (of_job job) u w) where
     abbrev before : List Entry
     before = entries_of (view_at u g).seen
 
@@ -229,8 +229,8 @@ module _ {told : Type 0} {job : ℕ} {rack : Rack} {names : List TurnName} {g s 
         sofar.entries transition its_table on_met)
 
     -- where nothing was looked at
-    none_next : looks ≡ [] → IsNext call.turn.old.table is_live s c None → IsNext (replayed first (before ++ gained u w g)) is_live s c None
-    none_next none next = subst (λ t. IsNext t is_live s c None)
+    none_next : looks ≡ [] → IsNextPlace call.turn.old.table is_live s c None → IsNextPlace (replayed first (before ++ gained u w g)) is_live s c None
+    none_next none next = subst (λ t. IsNextPlace t is_live s c None)
         (its_table ∙ ap (λ es. replayed first (before ++ es)) (sym (append-nil transition) ∙ (ap (λ ls. transition ++ logged_by job ls) (sym none) ∙ sym all_gain))) next
 
   -- all looks were answered
@@ -252,8 +252,8 @@ module _ {told : Type 0} {job : ℕ} {rack : Rack} {names : List TurnName} {g s 
 
   -- the last of them was at this slot
   module _ (stripe column : ℕ) (at : swept.reached ≡ reached.Slot stripe column) where
-    reaches : IsReached call.turn.old s c (reached.Slot stripe column) looks
-    reaches = subst (λ r. IsReached call.turn.old s c r looks) at call.turn.call.reaches
+    reaches : IsSweepReached call.turn.old s c (reached.Slot stripe column) looks
+    reaches = subst (λ r. IsSweepReached call.turn.old s c r looks) at call.turn.call.reaches
 
     pub scrub_step : ScrubSofar job g stripe (column + 1) (seen + swept.seen) (gone + swept.gone) u w
     scrub_step =
@@ -284,14 +284,14 @@ module _ {told : Type 0} {job : ℕ} {rack : Rack} {names : List TurnName} {g s 
   module _ (st : Setting) (ui wi : IndexPasses) (same : wi ≡ ui) (has : g < length u.names) (alone : RowOnlyWriterOf (of_job job) u w) (set : IsSettingOf st rack (known u ui)) where
     pub scrub_end_row : swept.reached ≡ reached.End → IsScrubbed st job g (seen + swept.seen) (gone + swept.gone) (section_of (known u ui) (known w wi))
     scrub_end_row at =
-        let (none, next) = subst (λ r. IsReached call.turn.old s c r looks) at call.turn.call.reaches in
+        let (none, next) = subst (λ r. IsSweepReached call.turn.old s c r looks) at call.turn.call.reaches in
         scrubbed_row st job g rack u w ui wi same has alone set s c (seen + swept.seen) (gone + swept.gone)
         (subst (λ (q : ℕ × ℕ). ScrubSofar job g q.0 q.1 (seen + swept.seen) (gone + swept.gone) u w) (ap (behind s c) none) (scrub_went (subst AreAnswered (sym none) none_answered)))
         (none_next (st.first g) (set.first g has) alone none next)
 
     pub scrub_fault_row : (column : ℕ) → swept.reached ≡ reached.Faulted column → IsScrubFault st job g column (section_of (known u ui) (known w wi))
     scrub_fault_row column at =
-        let (front, p, is, all) = subst (λ r. IsReached call.turn.old s c r looks) at call.turn.call.reaches in
+        let (front, p, is, all) = subst (λ r. IsSweepReached call.turn.old s c r looks) at call.turn.call.reaches in
         let goes = subst (λ ls. LooksOn told job s c ls call.turn.old call.turn.new call.turn.entries) is call.turn.call.goes in
         fault_row st job g rack u w ui wi same has alone set (sofar.entries ++ logged_by job front) p column
         (each_more is_look sofar.entries (logged_by job front) sofar.kinds (each_by job front all))
@@ -301,7 +301,7 @@ module _ {told : Type 0} {job : ℕ} {rack : Rack} {names : List TurnName} {g s 
 
     pub scrub_full_row : swept.reached ≡ reached.LogFull → IsScrubLogFull st job g (section_of (known u ui) (known w wi))
     scrub_full_row at =
-        let (front, p, is, all) = subst (λ r. IsReached call.turn.old s c r looks) at call.turn.call.reaches in
+        let (front, p, is, all) = subst (λ r. IsSweepReached call.turn.old s c r looks) at call.turn.call.reaches in
         let goes = subst (λ ls. LooksOn told job s c ls call.turn.old call.turn.new call.turn.entries) is call.turn.call.goes in
         full_row st job g rack u w ui wi same has alone set (sofar.entries ++ logged_by job front) p
         (each_more is_look sofar.entries (logged_by job front) sofar.kinds (each_by job front all))

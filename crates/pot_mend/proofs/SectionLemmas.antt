@@ -26,7 +26,7 @@ use Rattle.pot_replies.specs.Sections.{Section, mine, AlwaysAt, IsOnlyIn, LogPoi
 use Rattle.pot_replies.specs.Settings.{Setting}
 use Rattle.pot_replies.specs.Scrubs.{WasAt}
 use Rattle.pot_shared.specs.Works.{of_job, known, section_of, IsSettingOf}
-use Rattle.pot_shared.specs.Adds.{Adds, Fails, FailsOnce, FindsNext, IsFirst}
+use Rattle.pot_shared.specs.Adds.{Adds, FailsTest, FailsOnce, FindsNext, IsFirstTableSeen}
 use Rattle.pot_shared.proofs.AddLemmas.{seen_parts}
 
 -- the group of a call may have another name
@@ -48,11 +48,11 @@ sizes_replayed t (e ∷ log) =
 
 -- at some point of what a log gained, the slot, if it is one, failed the test
 abbrev pub FailsIn : (SlotState → Bool) → Table → List Entry → List Entry → ℕ → ℕ → Type 0
-FailsIn test first before added n k = (x : List Entry) × (y : List Entry) × (added ≡ x ++ y) × Fails test n k first (replayed first (before ++ x))
+FailsIn test first before added n k = (x : List Entry) × (y : List Entry) × (added ≡ x ++ y) × FailsTest test n k first (replayed first (before ++ x))
 
 module _ (test : SlotState → Bool) (first : Table) (before added : List Entry) where
   -- in the end
-  pub fails_last : (n k : ℕ) → Fails test n k first (replayed first (before ++ added)) → FailsIn test first before added n k
+  pub fails_last : (n k : ℕ) → FailsTest test n k first (replayed first (before ++ added)) → FailsIn test first before added n k
   fails_last n k fails = (added, [], sym (append-nil added), fails)
 
   -- the log gained more
@@ -82,7 +82,7 @@ module _ (st : Setting) (job g : ℕ) (rack : Rack) (u w : GroupPasses) (ui wi :
   pub only_in : (entries : List Entry) → Adds job g entries u w → IsOnlyIn g (mine job its)
   only_in entries adds = (adds.none_else alone, its_index)
 
-  read : IsFirst g u (st.first g)
+  read : IsFirstTableSeen g u (st.first g)
   read = set.first g within
 
   -- what failed a test at some point did not pass it all the time

@@ -17,9 +17,9 @@ use Rattle.pot_steps.specs.GroupStep.{look_entries}
 use Rattle.pot_group.specs.declared.answers.Looked.{Looked}
 use Rattle.pot_group.specs.declared.answers.Looked.TheVariants as looked
 use Rattle.pot_group.specs.Group.{GroupView, LookCause, looked_as}
-use Rattle.pot_group.specs.Finding.{IsNext}
+use Rattle.pot_group.specs.Finding.{IsNextPlace}
 use Rattle.pot_group.specs.Calls.{LookCall}
-use Rattle.pot_group.specs.Sweeping.{IsAnswered, Look, LooksOn, was_gone, was_seen}
+use Rattle.pot_group.specs.Sweeping.{IsLookAnswered, Look, LooksOn, was_gone, was_seen}
 use Rattle.pot_worked.specs.Laws.{AllOf}
 use Rattle.pot_replies.specs.Jobs.{is_look, is_seen, is_gone, place_in, EachIs, Ascend, Precedes}
 use Rattle.pot_replies.specs.Scrubs.{WereLive}
@@ -50,7 +50,7 @@ IsHere p _ = Unit {0}
 
 -- each look saw the block, or that it is gone
 abbrev pub AreAnswered : List Look → Type 0
-AreAnswered looks = (x : Look) → Contains looks x → IsAnswered x
+AreAnswered looks = (x : Look) → Contains looks x → IsLookAnswered x
 
 pub none_answered : AreAnswered []
 none_answered x has = absurd (none_contained x has)
@@ -181,7 +181,7 @@ module _ (job s c : ℕ) (entries : List Entry) (first : Table) (before added : 
   }
 
   -- the first Live slot at or after the place
-  module _ (n' k' : ℕ) (next : IsNext (replayed first (before ++ added)) is_live s c (Some (n', k'))) where
+  module _ (n' k' : ℕ) (next : IsNextPlace (replayed first (before ++ added)) is_live s c (Some (n', k'))) where
     pub on_ascends : Ascend (map place_in entries ++ (n', k') ∷ [])
     on_ascends = ascend_later (map place_in entries) (s, c) (n', k') on.ascends next.0.1
 
@@ -250,7 +250,7 @@ module _ (told : Type 0) (job : ℕ) (p : Place) (into : List ℕ) (old new : Gr
 
 -- a look that was answered, at the first Live slot at or after a place
 on_answer : (job s c : ℕ) (entries : List Entry) (first : Table) (before added : List Entry) → ScrubOn job s c entries first before added → (p : Place)
-    → IsNext (replayed first (before ++ added)) is_live s c (Some (p.stripe, p.column)) → (answer : Looked) → IsAnswered (p, answer)
+    → IsNextPlace (replayed first (before ++ added)) is_live s c (Some (p.stripe, p.column)) → (answer : Looked) → IsLookAnswered (p, answer)
     → ScrubOn job p.stripe (p.column + 1) (entries ++ logged job p answer) first before (added ++ logged job p answer)
 on_answer job s c entries first before added on p next looked.Seen held =
     on_look job s c entries first before added on p.stripe p.column next (entry.Seen job p.stripe p.column) refl (inl (one_in (entry.Seen job p.stripe p.column)))
@@ -276,7 +276,7 @@ pub record LastLook (job : ℕ) (entries : List Entry) (p : Place) (answer : Loo
   pub column : ℕ
   pub sofar : List Entry
   pub on : ScrubOn job stripe column entries first before sofar
-  pub next : IsNext (replayed first (before ++ sofar)) is_live stripe column (Some (p.stripe, p.column))
+  pub next : IsNextPlace (replayed first (before ++ sofar)) is_live stripe column (Some (p.stripe, p.column))
   pub parts : added ≡ sofar ++ logged job p answer
 
 module _ (told : Type 0) (job : ℕ) where
@@ -319,13 +319,13 @@ module _ (told : Type 0) (job : ℕ) where
   -- what was done with them
   module _ (first : Table) (before : List Entry) where
     -- the next of them
-    on_turn : (s c : ℕ) (p : Place) (into : List ℕ) (answer : Looked) (old mid : GroupView) (one : List Entry) → LookCall told job p into answer old mid one → IsAnswered (p, answer)
-        → (entries added : List Entry) → old.table ≡ replayed first (before ++ added) → IsNext old.table is_live s c (Some (p.stripe, p.column))
+    on_turn : (s c : ℕ) (p : Place) (into : List ℕ) (answer : Looked) (old mid : GroupView) (one : List Entry) → LookCall told job p into answer old mid one → IsLookAnswered (p, answer)
+        → (entries added : List Entry) → old.table ≡ replayed first (before ++ added) → IsNextPlace old.table is_live s c (Some (p.stripe, p.column))
         → ScrubOn job s c entries first before added → ScrubOn job p.stripe (p.column + 1) (entries ++ logged job p answer) first before (added ++ one)
     on_turn s c p into answer old mid one call held entries added is next on =
         on_same (entries ++ logged job p answer) (entries ++ logged job p answer) (added ++ logged job p answer) (added ++ one) refl
         (ap (λ l. added ++ l) (sym (look_logs told job p into old mid answer one call)))
-        (on_answer job s c entries first before added on p (subst (λ t. IsNext t is_live s c (Some (p.stripe, p.column))) is next) answer held)
+        (on_answer job s c entries first before added on p (subst (λ t. IsNextPlace t is_live s c (Some (p.stripe, p.column))) is next) answer held)
 
     leads_on : (p : Place) (into : List ℕ) (answer : Looked) (old mid : GroupView) (one : List Entry) → LookCall told job p into answer old mid one → (added : List Entry)
         → old.table ≡ replayed first (before ++ added) → mid.table ≡ replayed first (before ++ (added ++ one))
@@ -356,7 +356,7 @@ module _ (told : Type 0) (job : ℕ) where
           column = c;
           sofar = added;
           on = on_same entries (entries ++ []) added added (sym (append-nil entries)) refl on;
-          next = subst (λ t. IsNext t is_live s c (Some (p.stripe, p.column))) is place.1;
+          next = subst (λ t. IsNextPlace t is_live s c (Some (p.stripe, p.column))) is place.1;
           parts = ap (λ l. added ++ l)
               (parts ∙ (ap (λ l. one ++ l) then.0 ∙ (append-nil one ∙ look_logs told job p into old mid answer one call)));
         }

@@ -29,7 +29,7 @@ seen_in row g = entries_of (view_at row g).seen
 
 -- Nothing was logged. That is work of any job, and where the job was alone, what was seen meanwhile
 -- has no entry of it.
-pub record IsAsked (old new : GroupPasses) : Type 0 where
+pub record IsOnlyAsked (old new : GroupPasses) : Type 0 where
   pub worked : (job : ℕ) → RowWroteOnlyFor (of_job job) old new
   pub silent : (job : ℕ) → RowOnlyWriterOf (of_job job) old new → (g : ℕ) → own job (gained old new g) ≡ []
 

@@ -64,15 +64,15 @@ WasLeft entries job n k =
     ⊎ ((f : Digest) × Contains entries (entry.Oddly job n k f))
 
 -- the place is done: it was left, or was sound or Void at some point
-abbrev pub IsDone : List Entry → ℕ → ℕ → ℕ → ℕ → GroupPasses → GroupPasses → Type 0
-IsDone entries job n k g old now = WasLeft entries job n k ⊎ FailsOnce is_unsound n k g old now
+abbrev pub IsPlaceDone : List Entry → ℕ → ℕ → ℕ → ℕ → GroupPasses → GroupPasses → Type 0
+IsPlaceDone entries job n k g old now = WasLeft entries job n k ⊎ FailsOnce is_unsound n k g old now
 
 -- What was done before this place.
 pub record RepairSofar (job g s c mended left draws : ℕ) (old now : GroupPasses) : Type 0 where
   pub entries : List Entry
   pub adds : Adds job g entries old now
   pub are : AreRepairs job entries (s, c) (s, c) mended left draws
-  pub done : (n k : ℕ) → Precedes (n, k) (s, c) → IsDone entries job n k g old now
+  pub done : (n k : ℕ) → Precedes (n, k) (s, c) → IsPlaceDone entries job n k g old now
 
 -- A step failed behind these.
 pub record RepairFails (job g column draws : ℕ) (old now : GroupPasses) : Type 0 where

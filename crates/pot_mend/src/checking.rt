@@ -3,7 +3,7 @@ ghost use Rattle.std.specs.Prelude.{◌≡◌, ◌<◌, ◌+◌, IfOk, length};
 ghost use Rattle.pot_shared.specs.Ready.{AreReady};
 ghost use Rattle.pot_replies.specs.Settings.{Setting};
 ghost use Rattle.pot_shared.specs.Works.{known, IsSettingOf};
-ghost use Rattle.pot_mend.specs.Moves.{IsAsked, MigrateChecked, ReplaceChecked, seen_in};
+ghost use Rattle.pot_mend.specs.Moves.{IsOnlyAsked, MigrateChecked, ReplaceChecked, seen_in};
 
 use pot_outside::Archive;
 use pot_shared::{Passes, Vault};
@@ -46,7 +46,7 @@ pub fn check_migrate<A: Archive, R: Wait>(
     requires count { length vault.now.groups ≡ vault.now.rack.groups }
     ensures ready { AreReady vault.now.rack vault.now.groups passes.new.groups }
     ensures index { passes.new.index ≡ passes.old.index }
-    ensures asked { IsAsked passes.old.groups passes.new.groups }
+    ensures asked { IsOnlyAsked passes.old.groups passes.new.groups }
     ensures place { IfOk result
         (λ at.
         (at.group < length vault.now.groups)
@@ -97,7 +97,7 @@ pub fn check_replace<A: Archive, R: Wait>(
     requires count { length vault.now.groups ≡ vault.now.rack.groups }
     ensures ready { AreReady vault.now.rack vault.now.groups passes.new.groups }
     ensures index { passes.new.index ≡ passes.old.index }
-    ensures asked { IsAsked passes.old.groups passes.new.groups }
+    ensures asked { IsOnlyAsked passes.old.groups passes.new.groups }
     ensures place { IfOk result
         (λ at.
         (at.group < length vault.now.groups)

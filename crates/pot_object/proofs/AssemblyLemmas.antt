@@ -3,7 +3,7 @@ use Rattle.std.proofs.Common.{◌≡◌, ◌≢◌, ◌≤◌, ◌<◌, ◌+◌,
 use Rattle.std.proofs.lemmas.Bool.{cases_lt}
 use Rattle.std.proofs.lemmas.List.{drop_all, drop_at, drop-append-le, drop-drop, length-take-le, take_all, take-append-drop, take-append-le}
 use Rattle.pot_object.specs.Pieces.{longest, part_of, pieces_of}
-use Rattle.pot_object.specs.Objects.{head_at, object, object_bytes, part_length, IsHead}
+use Rattle.pot_object.specs.Objects.{head_at, object, object_bytes, part_length, IsObjectHead}
 use Rattle.pot_object.specs.Assembly.{count_of, joined, object_at, objects_from, objects_of, part_at, piece_at, AreObjects, BeginsWhole}
 use Rattle.pot_object.specs.declared.object.ObjectHead.{ObjectHead}
 use Rattle.pot_object.proofs.ReadLemmas.{head_at-object, made}
@@ -125,8 +125,8 @@ length-part_at h objects a k l same =
 
 -- the head of one object is the head of some file
 IsHead-row : (h : ObjectHead) (objects : List ℕ) → AreObjects h objects → (k : ℕ) → k < count_of objects → piece_at objects k ≡ k
-    → IsHead (record h { piece = k })
-IsHead-row h objects a k l same = subst (λ (z : ℕ). IsHead (record h { piece = z })) same (a.each k l).head
+    → IsObjectHead (record h { piece = k })
+IsHead-row h objects a k l same = subst (λ (z : ℕ). IsObjectHead (record h { piece = z })) same (a.each k l).head
 
 -- where all pieces are there, there are as many objects
 pub all_there : (h : ObjectHead) (objects : List ℕ) → AreObjects h objects → 0 < h.pieces → BeginsWhole objects h.pieces
@@ -138,8 +138,8 @@ all_there h objects a first whole =
     omega arith
 
 -- the head of an object of the row is the head of some file
-pub IsHead-object_at : (h : ObjectHead) (objects : List ℕ) → AreObjects h objects → (k : ℕ) → k < count_of objects → IsHead (head_at (object_at objects k))
-IsHead-object_at h objects a k l = subst IsHead (sym (head-object_at h objects a k l)) (a.each k l).head
+pub IsHead-object_at : (h : ObjectHead) (objects : List ℕ) → AreObjects h objects → (k : ℕ) → k < count_of objects → IsObjectHead (head_at (object_at objects k))
+IsHead-object_at h objects a k l = subst IsObjectHead (sym (head-object_at h objects a k l)) (a.each k l).head
 
 -- some piece exists
 pub some_piece : (h : ObjectHead) (objects : List ℕ) → AreObjects h objects → 0 < count_of objects → 0 < h.pieces

@@ -4,7 +4,7 @@ use Rattle.std.proofs.Math.Seq.{take-add}
 use Rattle.std.proofs.lemmas.List.{append_assoc, append-nil, drop_at, drop-drop, length-take, take_all, take_at}
 use Rattle.pot_bytes.specs.Digests.{digest_bytes}
 use Rattle.pot_object.specs.Pieces.{longest, part_of, pieces_of}
-use Rattle.pot_object.specs.Objects.{head_at, head_bytes, head_of, object, object_bytes, part_length, IsHead, IsObject}
+use Rattle.pot_object.specs.Objects.{head_at, head_bytes, head_of, object, object_bytes, part_length, IsObjectHead, IsObject}
 use Rattle.pot_object.specs.Assembly.{count_of, joined, object_at, objects_from, objects_of, piece_at, AreObjectsOf, IsLeastMissing, IsSeries}
 use Rattle.pot_object.specs.declared.object.ObjectHead.{ObjectHead}
 use Rattle.pot_object.proofs.ObjectLemmas.{length-object, part-object}
@@ -20,7 +20,7 @@ part-written id file piece whole =
     ap (λ (n : ℕ). take n (drop 64 (object id file piece))) (sym (length-part id file piece)) ∙ part-object id file piece whole
 
 IsHead-written : (id file : List ℕ) (piece : ℕ) → length id ≡ 16 → length file ≤ longest → piece < pieces_of (length file)
-    → IsHead (head_of id file piece)
+    → IsObjectHead (head_of id file piece)
 IsHead-written id file piece whole fits exists = record { id = whole; fits = fits; cut = refl; exists = exists }
 
 pub IsObject-written : (id file : List ℕ) (piece : ℕ) → length id ≡ 16 → length file ≤ longest → piece < pieces_of (length file)

@@ -8,7 +8,7 @@ use Rattle.pot_bytes.specs.Lists.{AreBytes}
 use Rattle.pot_bytes.proofs.ListLemmas.{AreBytes-drop}
 use Rattle.pot_bytes.specs.Digests.{digest_bytes}
 use Rattle.pot_object.specs.Sealing.{sealed}
-use Rattle.pot_object.specs.Objects.{head_at, head_bytes, object_bytes, part_length, IsHead, IsObject}
+use Rattle.pot_object.specs.Objects.{head_at, head_bytes, object_bytes, part_length, IsObjectHead, IsObject}
 use Rattle.pot_object.specs.declared.object.ObjectHead.{ObjectHead}
 use Rattle.pot_object.proofs.NumberLemmas.{big_bytes_4, big_bytes_8}
 use Rattle.pot_object.proofs.ObjectLemmas.{length-head_bytes}
@@ -35,7 +35,7 @@ unfoldable pub made : List ℕ → ℕ → ℕ → ℕ → ObjectHead
 made id piece pieces n = record { file_id = id; piece = piece; pieces = pieces; length = n }
 
 -- the head that was written is read again
-pub head_at-head_bytes : (h : ObjectHead) (rest : List ℕ) → IsHead h → head_at (head_bytes h ++ rest) ≡ h
+pub head_at-head_bytes : (h : ObjectHead) (rest : List ℕ) → IsObjectHead h → head_at (head_bytes h ++ rest) ≡ h
 unfolding head_bytes made
 head_at-head_bytes h rest ok =
     let a = h.file_id in
@@ -108,7 +108,7 @@ zeros-object h bytes long is =
     ap (drop n) back ∙ drop_at part (replicate (864 - length part) 0) n whole ∙ ap (λ (k : ℕ). replicate (864 - k) 0) whole
 
 -- bytes of these parts are an object
-pub IsObject-from_parts : (h : ObjectHead) (bytes : List ℕ) → length bytes ≡ 928 → IsHead h → head_bytes h ≡ take 32 bytes
+pub IsObject-from_parts : (h : ObjectHead) (bytes : List ℕ) → length bytes ≡ 928 → IsObjectHead h → head_bytes h ≡ take 32 bytes
     → bytes ≡ sealed (take 32 bytes) (drop 64 bytes) → drop (part_length h) (drop 64 bytes) ≡ replicate (864 - part_length h) 0
     → IsObject h bytes
 unfolding object_bytes

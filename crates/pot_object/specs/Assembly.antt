@@ -46,20 +46,20 @@ pub record AreObjectsOf (objects : List ℕ) (file : List ℕ) : Type 0 where
   pub all : objects ≡ objects_of (take 16 objects) file
 
 -- no object carries this piece
-abbrev pub IsMissing : List ℕ → ℕ → Type 0
-IsMissing objects piece = (k : ℕ) → k < count_of objects → piece_at objects k ≢ piece
+abbrev pub IsPieceMissing : List ℕ → ℕ → Type 0
+IsPieceMissing objects piece = (k : ℕ) → k < count_of objects → piece_at objects k ≢ piece
 
 -- this piece of the file is missing, and none before it
 pub record IsLeastMissing (objects : List ℕ) (piece : ℕ) : Type 0 where
   pub exists : piece < (head_at objects).pieces
-  pub missing : IsMissing objects piece
+  pub missing : IsPieceMissing objects piece
   pub least : (q : ℕ) → q < piece → (k : ℕ) × (k < count_of objects) × (piece_at objects k ≡ q)
 
 -- the piece that a refusal names is the least that is missing; want of memory comes where none is
 abbrev pub NamesLeast : List ℕ → AssembleFault → Type 0
 NamesLeast objects (Incomplete piece) = IsLeastMissing objects piece
 NamesLeast objects NoMemory =
-    (piece : ℕ) → piece < (head_at objects).pieces → ¬ IsMissing objects piece
+    (piece : ℕ) → piece < (head_at objects).pieces → ¬ IsPieceMissing objects piece
 
 -- object number k is there and carries piece k
 abbrev pub IsInPlace : List ℕ → ℕ → Type 0

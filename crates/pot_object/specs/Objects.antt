@@ -25,7 +25,7 @@ unfoldable pub object : List ℕ → List ℕ → ℕ → List ℕ
 object id file piece = object_bytes (head_of id file piece) (part_of file piece)
 
 -- a head that some file has
-pub record IsHead (h : ObjectHead) : Type 0 where
+pub record IsObjectHead (h : ObjectHead) : Type 0 where
   pub id : length h.file_id ≡ 16
   pub fits : h.length ≤ longest
   pub cut : h.pieces ≡ pieces_of h.length
@@ -37,7 +37,7 @@ part_length h = min piece_size (h.length - h.piece * piece_size)
 
 -- these bytes are the object of this head and of the part that stands from byte 64 on
 pub record IsObject (h : ObjectHead) (bytes : List ℕ) : Type 0 where
-  pub head : IsHead h
+  pub head : IsObjectHead h
   pub spelled : bytes ≡ object_bytes h (take (part_length h) (drop 64 bytes))
 
 -- the fields where a head has them

@@ -1,7 +1,7 @@
 ghost use Rattle.std.specs.Prelude.{◌≡◌, ◌≤◌, ◌<◌, ◌↔◌, ◌*◌, ℕ, List, length, IfOk, IfErr};
 ghost use Rattle.std.specs.Prelude.{MatchOption, IsTrue};
 ghost use Rattle.pot_object.specs.Pieces.{longest, object_size};
-ghost use Rattle.pot_object.specs.Objects.{head_at, IsHead};
+ghost use Rattle.pot_object.specs.Objects.{head_at, IsObjectHead};
 ghost use Rattle.pot_object.specs.Assembly.{count_of, object_at, objects_of, joined, part_at};
 ghost use Rattle.pot_object.specs.Assembly.{AreObjectsOf, BeginsWhole, IsInPlace, IsLeastMissing};
 ghost use Rattle.pot_object.specs.Assembly.{IsSeries, NamesLeast};
@@ -28,8 +28,8 @@ impl From<AllocError> for AssembleFault {
     }
 }
 
-/// The laws of the objects of all pieces of a file, in order: they may be assembled, none is missing, and they
-/// are those of no other file. So they are assembled to the file.
+/// The laws of the objects of all pieces of a file, in order: they may be assembled, none is
+/// missing, and they are those of no other file. So they are assembled to the file.
 pub fn assemble_laws()
     ensures series { (id file : List ℕ) → length id ≡ 16 → length file ≤ longest
         → IsSeries (objects_of id file) }
@@ -39,8 +39,8 @@ pub fn assemble_laws()
         → AreObjectsOf (objects_of id file) other → other ≡ file }
 {}
 
-/// The file whose objects these are: one or more, one after another, of one file id, number of pieces and
-/// length, their pieces ascending.
+/// The file whose objects these are: one or more, one after another, of one file id, number of
+/// pieces and length, their pieces ascending.
 pub fn assemble(alloc: Global, objects: &[u8]) -> Result<Vec<u8>, AssembleFault>
     requires { IsSeries objects.now }
     ensures file { IfOk result (λ v. AreObjectsOf objects.now v.items) }
@@ -80,7 +80,7 @@ fn is_in_place(objects: &[u8], piece: u32) -> bool
 /// The parts of the first objects, one after another.
 fn join_parts(alloc: Global, objects: &[u8], count: u32) -> Result<Vec<u8>, AllocError>
     requires whole { count * object_size ≤ length objects.now }
-    requires heads { (k : ℕ) → k < count → IsHead (head_at (object_at objects.now k)) }
+    requires heads { (k : ℕ) → k < count → IsObjectHead (head_at (object_at objects.now k)) }
     ensures { IfOk result (λ v. v.items ≡ joined (part_at objects.now) count) }
 {
     let mut file = Vec::new(alloc);

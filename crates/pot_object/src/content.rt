@@ -17,8 +17,8 @@ pub struct FragmentHead {
     pub count: u8,
 }
 
-/// The laws of contents: what is written is a content of its head, with its fragment; a content has one head,
-/// and a head and a fragment have one content.
+/// The laws of contents: what is written is a content of its head, with its fragment; a content has
+/// one head, and a head and a fragment have one content.
 pub fn content_laws()
     ensures written { (h : FragmentHead) (part : List ℕ) → IsFragmentHead h
         → length part ≡ object_size → IsContent h (content_bytes h part) }

@@ -1,10 +1,13 @@
-//! The pieces of a file in bytes: an object carries one piece with its place in the file, a content one
-//! fragment of an object. Each is sealed by a SHA-256 digest over all its other bytes.
+//! The pieces of a file in bytes: an object carries one piece with its place in the file, a content
+//! one fragment of an object. Each is sealed by a SHA-256 digest over all its other bytes.
 //!
-//! It knows no archive, no share and no randomness, and it keeps nothing. Only `assemble` takes memory.
+//! It knows no archive, no share and no randomness, and it keeps nothing. Only `assemble` takes
+//! memory.
 //!
-//! Each format is one definition of the bytes by the value, and what is read is exactly what is written:
-//! 1. an object is `object_bytes` of its head and its part of the file: `write_object`, `read_object`;
+//! Each format is one definition of the bytes by the value, and what is read is exactly what is
+//! written:
+//! 1. an object is `object_bytes` of its head and its part of the file: `write_object`,
+//!    `read_object`;
 //! 2. a content is `content_bytes` of its head and its fragment: `write_content`, `read_content`;
 //! 3. the objects of all pieces of a file are those of no other: `assemble`, `assemble_laws`.
 #![tactic(auto)]

@@ -2,7 +2,7 @@ ghost use Rattle.std.specs.Prelude.{◌≡◌, ◌≤◌, ◌<◌, ◌↔◌, �
 ghost use Rattle.std.specs.Prelude.{replicate, IsTrue, MatchOption};
 ghost use Rattle.pot_object.specs.Pieces.{longest, object_size, part_of, pieces_of};
 ghost use Rattle.pot_object.specs.Objects.{head_at, head_bytes, head_of, object, part_length};
-ghost use Rattle.pot_object.specs.Objects.{IsHead, IsObject};
+ghost use Rattle.pot_object.specs.Objects.{IsObjectHead, IsObject};
 
 use crate::pieces::{LONGEST, OBJECT, PIECE, count_pieces};
 use crate::sealing::{is_sealed, is_zeros, seal};
@@ -20,8 +20,8 @@ pub struct ObjectHead {
     pub length: u64,
 }
 
-/// The laws of objects: what is written is an object of its head, with its part of the file; an object has
-/// one head, and a head and a part have one object.
+/// The laws of objects: what is written is an object of its head, with its part of the file; an
+/// object has one head, and a head and a part have one object.
 pub fn object_laws()
     ensures written { (id file : List ℕ) (piece : ℕ) → length id ≡ 16 → length file ≤ longest
         → piece < pieces_of (length file)
@@ -91,14 +91,14 @@ pub fn head_in(bytes: &[u8]) -> ObjectHead
 
 /// Whether some file has this head.
 fn is_head(head: &ObjectHead) -> bool
-    ensures { IsTrue result ↔ IsHead head.now }
+    ensures { IsTrue result ↔ IsObjectHead head.now }
 {
     head.length <= LONGEST && head.pieces == count_pieces(head.length) && head.piece < head.pieces
 }
 
 /// How many bytes of the file the piece carries.
 pub fn part_len(head: &ObjectHead) -> usize
-    requires { IsHead head.now }
+    requires { IsObjectHead head.now }
     ensures { result ≡ part_length head.now }
 {
     (head.length - u64::from(head.piece) * PIECE).min(PIECE) as usize

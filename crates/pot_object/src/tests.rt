@@ -7,7 +7,8 @@ use pot_bytes::digest_of_two;
 use std::alloc::{AllocError, Global};
 use std::test::Fail;
 
-// The first 64 bytes of an object and of a content, computed apart from this crate by Python's hashlib.
+// The first 64 bytes of an object and of a content, computed apart from this crate by Python's
+// hashlib.
 const FILE_ID: [u8; 16] = [
     0xa0, 0xa1, 0xa2, 0xa3, 0xa4, 0xa5, 0xa6, 0xa7, 0xa8, 0xa9, 0xaa, 0xab, 0xac, 0xad, 0xae, 0xaf,
 ];

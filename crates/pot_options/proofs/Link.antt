@@ -6,12 +6,12 @@ use Rattle.clap.specs.Words.{App, HasMatchesOf, Row, Rule, found_of, kind_of, ma
 use Rattle.clap.specs.declared.error.Error.{Error}
 use Rattle.clap.specs.declared.error.kind.ErrorKind.TheVariants.{OutOfMemory}
 use Rattle.clap.specs.declared.parser.matches.ArgMatches.{ArgMatches}
-use Rattle.clap.specs.Walk.{Text, Held, Walk, walked, settled, with_default, has_row, finished}
-use Rattle.clap.specs.Simple.{entered, argument_words, rows_at, label_of}
+use Rattle.clap.specs.Walk.{Text, Walk, walked, settled, with_default, has_row, finished}
+use Rattle.clap.specs.Simple.{entered}
 use Rattle.clap.specs.Kinds.{HasKind, Kinds, or_else}
 use Rattle.clap.specs.Takes.{is_given}
 use Rattle.clap.specs.Faults.{is_simple_and_free, fault_of, built_fault, entered_fault, level_fault, walk_fault, settle_fault, defaults_fault, default_fault, check_fault}
-use Rattle.pot_options.specs.Options.{AreNew, AreSpelled, AreUnhyphened, AreNames, IsName, IsRead, IsUnread, SpellUses, has_delimiter, dashed}
+use Rattle.pot_options.specs.Options.{AreNewOptions, AreSpelled, AreUnhyphened, AreOptionNames, IsOptionName, AreOptionsRead, IsUnread, SpellUses, has_delimiter, dashed}
 use Rattle.pot_options.specs.Apps.{HasUses, options_app, row_of_use, uses_of, use_of_row}
 use Rattle.pot_options.proofs.Names.{rule, rules}
 use Rattle.pot_options.proofs.Built.{shape, built_is, simple_and_free}
@@ -68,23 +68,23 @@ rows_are names words =
 
 -- the matches of words that clap takes
 pub spelled_from : (names : List Text) (words : List Text) → has_delimiter words ≡ false → fault_of (options_app names) words ≡ []
-    → (uses : List (Text × Text)) × AreSpelled uses words × AreNew names [] uses × (matches_of (options_app names) words ≡ map row_of_use uses)
+    → (uses : List (Text × Text)) × AreSpelled uses words × AreNewOptions names [] uses × (matches_of (options_app names) words ≡ map row_of_use uses)
 spelled_from names words bares none =
     let r = forward names words [] None tt bares (sym (fault_is names words) ∙ none) in
     (r.1, r.2, r.3, rows_are names words ∙ r.4)
 
 -- words that spell uses are taken
-pub taken_if_spelled : (names : List Text) (words : List Text) (uses : List (Text × Text)) → AreNames names → AreSpelled uses words → AreUnhyphened uses → AreNew names [] uses
+pub taken_if_spelled : (names : List Text) (words : List Text) (uses : List (Text × Text)) → AreOptionNames names → AreSpelled uses words → AreUnhyphened uses → AreNewOptions names [] uses
     → (fault_of (options_app names) words ≡ []) × (matches_of (options_app names) words ≡ map row_of_use uses)
 taken_if_spelled names words uses are spelled unhyphened new =
     let t = backward names are uses words spelled unhyphened [] None tt tt new in
     (fault_is names words ∙ t.0, rows_are names words ∙ t.1)
 
-not_delimiter : (n t : Text) → IsName n → bytes_eq (dashed n ++ t) (45 ∷ 45 ∷ []) ≡ false
+not_delimiter : (n t : Text) → IsOptionName n → bytes_eq (dashed n ++ t) (45 ∷ 45 ∷ []) ≡ false
 not_delimiter [] t name = absurd name
 not_delimiter (y ∷ ys) t name = refl
 
-pub spelled_without_delimiter : (names : List Text) → AreNames names → (uses : List (Text × Text)) (words : List Text) (before : List (Text × Text)) → AreSpelled uses words → AreUnhyphened uses → AreNew names before uses
+pub spelled_without_delimiter : (names : List Text) → AreOptionNames names → (uses : List (Text × Text)) (words : List Text) (before : List (Text × Text)) → AreSpelled uses words → AreUnhyphened uses → AreNewOptions names before uses
     → has_delimiter words ≡ false
 spelled_without_delimiter names are [] words before spelled unhyphened new = ap has_delimiter spelled
 spelled_without_delimiter names are (u ∷ others) words before (left, rest, inl is) unhyphened new =
@@ -109,8 +109,8 @@ pub has_own_uses : (m : ArgMatches) (uses : List (Text × Text)) → HasUses m u
 has_own_uses m uses has = has ∙ ap (map row_of_use) (sym (uses_are m uses has))
 
 -- what clap's clauses at `Ok` and at `Err` say
-pub read_of : (names words : List Text) (a : App) (m : ArgMatches) → a ≡ options_app names → AreNames names → has_delimiter words ≡ false
-    → (is_simple_and_free a ≡ true → fault_of a words ≡ []) → HasMatchesOf a words m → HasUses m (uses_of m) × IsRead names words (uses_of m)
+pub read_of : (names words : List Text) (a : App) (m : ArgMatches) → a ≡ options_app names → AreOptionNames names → has_delimiter words ≡ false
+    → (is_simple_and_free a ≡ true → fault_of a words ≡ []) → HasMatchesOf a words m → HasUses m (uses_of m) × AreOptionsRead names words (uses_of m)
 read_of names words a m is are bares passes matches =
     let free = simple_at names a is in
     let none : fault_of (options_app names) words ≡ [] = ap (λ (b : App). fault_of b words) (sym is) ∙ passes free in
@@ -123,7 +123,7 @@ read_of names words a m is are bares passes matches =
       ),
     )
 
-pub unread_of : (names words : List Text) (a : App) (e : Error) → a ≡ options_app names → AreNames names
+pub unread_of : (names words : List Text) (a : App) (e : Error) → a ≡ options_app names → AreOptionNames names
     → (is_simple_and_free a ≡ true → HasKind (fault_of a words) e) → (kind_of e ≡ OutOfMemory → ⊥) → IsUnread names words
 unread_of names words a e is are fails known uses spell unhyphened =
     let none : fault_of a words ≡ [] = ap (λ (b : App). fault_of b words) is ∙ (taken_if_spelled names words uses are spell.0 unhyphened spell.1).0 in
@@ -132,5 +132,5 @@ unread_of names words a e is are fails known uses spell unhyphened =
       | inr among ↦ among
     ]
 
-pub unread_delimiter : (names words : List Text) → AreNames names → has_delimiter words ≡ true → IsUnread names words
+pub unread_delimiter : (names words : List Text) → AreOptionNames names → has_delimiter words ≡ true → IsUnread names words
 unread_delimiter names words are bare uses spell unhyphened = true≢false (sym bare ∙ spelled_without_delimiter names are uses words [] spell.0 unhyphened spell.1)

@@ -6,7 +6,7 @@ use Rattle.clap.specs.Walk.{Text, Held, Step, walked, idle, option, used, after_
 use Rattle.clap.specs.Lexer.{name_and_value, has_byte, long_of, short_of}
 use Rattle.clap.specs.Kinds.{Kinds, or_else}
 use Rattle.clap.specs.Faults.{turn_fault, step_fault, use_fault, walk_fault}
-use Rattle.pot_options.specs.Options.{is_among, is_used, dashed, AreNew, AreSpelled, AreUnhyphened, AreNames, IsUnhyphened, IsName}
+use Rattle.pot_options.specs.Options.{is_among, is_used, dashed, AreNewOptions, AreSpelled, AreUnhyphened, AreOptionNames, IsUnhyphened, IsOptionName}
 use Rattle.pot_options.specs.Apps.{row_of_use}
 use Rattle.pot_options.proofs.Names.{rule, rules, row_is}
 use Rattle.pot_options.proofs.Built.{shape}
@@ -23,12 +23,12 @@ no_equals text e = go (has_byte 61 text) e
     go true e = absurd (true≢false (sym e))
     go false e = refl
 
-pub known_name : (names : List Text) (n : Text) → AreNames names → is_among names n ≡ true → IsName n
+pub known_name : (names : List Text) (n : Text) → AreOptionNames names → is_among names n ≡ true → IsOptionName n
 known_name [] n are known = absurd (true≢false (sym known))
 known_name (m ∷ ms) n are known = go (bytes_eq m n) refl known (known_name ms n are.1)
   where
-    go : (b : Bool) → bytes_eq m n ≡ b → (b || is_among ms n) ≡ true → (is_among ms n ≡ true → IsName n) → IsName n
-    go true e k h = subst IsName ((bytes_eq-Decides m n).0 e) are.0
+    go : (b : Bool) → bytes_eq m n ≡ b → (b || is_among ms n) ≡ true → (is_among ms n ≡ true → IsOptionName n) → IsOptionName n
+    go true e k h = subst IsOptionName ((bytes_eq-Decides m n).0 e) are.0
     go false e k h = h k
 
 pub unhyphened_word : (v : Text) → IsUnhyphened v → (bytes_eq v bare ≡ false) × (long_of v ≡ None) × (short_of v ≡ None)
@@ -50,7 +50,7 @@ module _ (names : List Text) (done : List (Text × Text)) (last : Option (Text �
   unfolding walk_fault
   takes_none = (settles names done last known_last fresh, settled_is names done last known_last fresh ∙ ap (map row_of_use) (sym (append-nil end)))
 
-  takes_next : (n v : Text) (others : List (Text × Text)) (left : List Text) → IsName n → is_among names n ≡ true → IsUnhyphened v
+  takes_next : (n v : Text) (others : List (Text × Text)) (left : List Text) → IsOptionName n → is_among names n ≡ true → IsUnhyphened v
       → Takes names end (Some (n, v)) others left → Takes names done last ((n, v) ∷ others) (dashed n ∷ v ∷ left)
   takes_next [] v others left name known unhyphened further = absurd name
   takes_next (y ∷ ys) v others left name known unhyphened further =
@@ -75,7 +75,7 @@ module _ (names : List Text) (done : List (Text × Text)) (last : Option (Text �
             ∙ further.1 ∙ ap (map row_of_use) (append_assoc end ((n, v) ∷ []) others),
       )
 
-  takes_joined : (n v : Text) (others : List (Text × Text)) (left : List Text) → IsName n → is_among names n ≡ true → is_used end n ≡ false
+  takes_joined : (n v : Text) (others : List (Text × Text)) (left : List Text) → IsOptionName n → is_among names n ≡ true → is_used end n ≡ false
       → Takes names (end ++ (n, v) ∷ []) None others left → Takes names done last ((n, v) ∷ others) ((dashed n ++ 61 ∷ v) ∷ left)
   takes_joined [] v others left name known new further = absurd name
   takes_joined (y ∷ ys) v others left name known new further =
@@ -93,8 +93,8 @@ module _ (names : List Text) (done : List (Text × Text)) (last : Option (Text �
       )
 
 -- words that spell uses are taken, and the walk ends with their rows
-pub backward : (names : List Text) → AreNames names → (uses : List (Text × Text)) (words : List Text) → AreSpelled uses words → AreUnhyphened uses
-    → (done : List (Text × Text)) (last : Option (Text × Text)) → IsKnown names last → IsFresh done last → AreNew names (after_use done last) uses → Takes names done last uses words
+pub backward : (names : List Text) → AreOptionNames names → (uses : List (Text × Text)) (words : List Text) → AreSpelled uses words → AreUnhyphened uses
+    → (done : List (Text × Text)) (last : Option (Text × Text)) → IsKnown names last → IsFresh done last → AreNewOptions names (after_use done last) uses → Takes names done last uses words
 backward names are [] words spelled unhyphened done last known fresh new = subst (Takes names done last []) (sym spelled) (takes_none names done last known fresh)
 backward names are (u ∷ others) words (left, rest, inl is) unhyphened done last known fresh new =
     subst (Takes names done last (u ∷ others)) (sym is)

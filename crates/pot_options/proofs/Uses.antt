@@ -4,7 +4,7 @@ use Rattle.std.specs.Option.{option_map_or}
 use Rattle.std.specs.Bool.{⊤}
 use Rattle.std.proofs.lemmas.List.{map-append}
 use Rattle.clap.specs.Words.{Row, Rule}
-use Rattle.clap.specs.Walk.{Text, Held, has_row, used, settled_rows, used_by_id, arg_by_id, without, more_values}
+use Rattle.clap.specs.Walk.{Text, has_row, used, settled_rows, used_by_id, arg_by_id, without, more_values}
 use Rattle.clap.specs.Kinds.{or_else}
 use Rattle.clap.specs.Faults.{settle_fault, use_fault}
 use Rattle.clap.specs.declared.error.kind.ErrorKind.TheVariants as kind

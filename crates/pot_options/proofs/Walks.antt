@@ -2,11 +2,11 @@
 use Rattle.std.proofs.Common.{◌≡◌, inl, inr, ◌∙◌, ℕ, Bool, cond, true, false, refl, sym, ap, ap₂, subst, List, [], ◌∷◌, ◌++◌, map, Option, Some, None, append-nil, append_assoc, bytes_eq, true≢false, fold}
 use Rattle.std.proofs.lemmas.Bool.{or_parts}
 use Rattle.clap.specs.Words.{Row}
-use Rattle.clap.specs.Walk.{Text, Held, Walk, walked, idle, option, settled_rows, used, arg_by_long, plain, plain_word, after_step, after_flag}
+use Rattle.clap.specs.Walk.{Text, Held, Walk, walked, idle, option, settled_rows, used, arg_by_long, after_step, after_flag}
 use Rattle.clap.specs.Lexer.{name_and_value}
 use Rattle.clap.specs.Kinds.{Kinds, or_else}
 use Rattle.clap.specs.Faults.{settle_fault, turn_fault, use_fault, walk_fault, step_fault}
-use Rattle.pot_options.specs.Options.{is_among, is_used, has_delimiter, dashed, AreNew, AreSpelled}
+use Rattle.pot_options.specs.Options.{is_among, is_used, has_delimiter, dashed, AreNewOptions, AreSpelled}
 use Rattle.pot_options.specs.Apps.{row_of_use}
 use Rattle.pot_options.proofs.Names.{rule, rules, long_is, row_is}
 use Rattle.pot_options.proofs.Built.{shape}
@@ -48,7 +48,7 @@ asked done n = at (map row_of_use done) (Some (n, [])) (option n)
 
 -- the words spell uses, and the walk ends with their rows
 abbrev pub Reads : List Text → List (Text × Text) → Option (Text × Text) → List Text → Type 0
-Reads names done last words = IsFresh done last × (uses : List (Text × Text)) × AreSpelled uses words × AreNew names (after_use done last) uses
+Reads names done last words = IsFresh done last × (uses : List (Text × Text)) × AreSpelled uses words × AreNewOptions names (after_use done last) uses
     × (rows_from names (start done last) words ≡ map row_of_use (after_use done last ++ uses))
 
 abbrev pub Forward : List Text → List Text → Type 0

@@ -26,14 +26,14 @@ abbrev pub is_used : List (Text × Text) → Text → Bool
 is_used uses name = list_any (λ u. bytes_eq u.0 name) uses
 
 -- each use is of one of the names, and of none that was used before
-abbrev pub AreNew : List Text → List (Text × Text) → List (Text × Text) → Type 0
-AreNew names before [] = ⊤
-AreNew names before (u ∷ others) = (is_among names u.0 ≡ true) × (is_used before u.0 ≡ false)
-    × AreNew names (before ++ u ∷ []) others
+abbrev pub AreNewOptions : List Text → List (Text × Text) → List (Text × Text) → Type 0
+AreNewOptions names before [] = ⊤
+AreNewOptions names before (u ∷ others) = (is_among names u.0 ≡ true) × (is_used before u.0 ≡ false)
+    × AreNewOptions names (before ++ u ∷ []) others
 
 -- the words spell these uses of the options `names`, each option at most once
 abbrev pub SpellUses : List Text → List Text → List (Text × Text) → Type 0
-SpellUses names words uses = AreSpelled uses words × AreNew names [] uses
+SpellUses names words uses = AreSpelled uses words × AreNewOptions names [] uses
 
 -- the value that the uses give an option
 abbrev pub given : List (Text × Text) → Text → Option Text
@@ -49,8 +49,8 @@ AreUnhyphened [] = ⊤
 AreUnhyphened (u ∷ others) = IsUnhyphened u.1 × AreUnhyphened others
 
 -- the words spell the uses that were read, and no others whose values begin with no hyphen
-abbrev pub IsRead : List Text → List Text → List (Text × Text) → Type 0
-IsRead names words read = SpellUses names words read
+abbrev pub AreOptionsRead : List Text → List Text → List (Text × Text) → Type 0
+AreOptionsRead names words read = SpellUses names words read
     × ((uses : List (Text × Text)) → SpellUses names words uses → AreUnhyphened uses → read ≡ uses)
 
 -- the words spell no uses whose values begin with no hyphen
@@ -62,13 +62,13 @@ IsUnread names words =
 abbrev pub has_no_equals : Text → Bool
 has_no_equals name = not (list_any (λ b. nat_eq b 61) name)
 
-abbrev pub IsName : Text → Type 0
-IsName [] = ⊥
-IsName (b ∷ rest) = has_no_equals (b ∷ rest) ≡ true
+abbrev pub IsOptionName : Text → Type 0
+IsOptionName [] = ⊥
+IsOptionName (b ∷ rest) = has_no_equals (b ∷ rest) ≡ true
 
-abbrev pub AreNames : List Text → Type 0
-AreNames [] = ⊤
-AreNames (name ∷ others) = IsName name × AreNames others
+abbrev pub AreOptionNames : List Text → Type 0
+AreOptionNames [] = ⊤
+AreOptionNames (name ∷ others) = IsOptionName name × AreOptionNames others
 
 -- a word is just `--`
 abbrev pub has_delimiter : List Text → Bool

@@ -1,7 +1,8 @@
 ghost use Rattle.std.specs.Prelude.{◌≡◌, IfOk, MatchOption, map};
 ghost use Rattle.std.specs.String.{string_bytes};
 ghost use Rattle.clap.specs.Words.{app_of};
-ghost use Rattle.pot_options.specs.Options.{AreNames, IsRead, IsUnread, has_delimiter};
+ghost use Rattle.pot_options.specs.Options.{AreOptionNames, AreOptionsRead, IsUnread};
+ghost use Rattle.pot_options.specs.Options.{has_delimiter};
 ghost use Rattle.pot_options.specs.Apps.{options_app};
 
 use crate::options::Options;
@@ -10,18 +11,18 @@ use clap::{Arg, ArgAction, Command};
 use pot_bytes::NoMemory;
 use std::alloc::{AllocError, Global};
 
-/// The options `names` that the words spell, and `None` where they spell none. Words that spell options
-/// whose values begin with no hyphen are never refused.
+/// The options `names` that the words spell, and `None` where they spell none. Words that spell
+/// options whose values begin with no hyphen are never refused.
 pub fn read_options<'a>(
     alloc: Global,
     names: &'a [&'a str],
     words: &'a [String],
 ) -> Result<Option<Options<'a>>, NoMemory>
-    requires { AreNames (map (λ s. s.now) names.now) }
+    requires { AreOptionNames (map (λ s. s.now) names.now) }
     ensures { IfOk result
         (λ r. MatchOption r (IsUnread (map (λ s. s.now) names.entry.now)
         (map string_bytes words.entry.now))
-        (IsRead (map (λ s. s.now) names.entry.now) (map string_bytes words.entry.now))) }
+        (AreOptionsRead (map (λ s. s.now) names.entry.now) (map string_bytes words.entry.now))) }
 {
     if has_delimiter(words) {
         return Ok(None);

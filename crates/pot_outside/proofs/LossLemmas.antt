@@ -2,20 +2,20 @@
 use Rattle.std.proofs.Common.{◌≡◌, ◌≢◌, ◌==◌, ℕ, Bool, true, false, List, Option, Some, refl, ap, ◌∙◌, arith, inl, inr}
 use Rattle.std.proofs.lemmas.Bool.Decides.{eqb_tells}
 use Rattle.std.specs.Prelude.{cond}
-use Rattle.pot_outside.specs.Archives.{Contents, OnlyLoses, at_slot}
+use Rattle.pot_outside.specs.Archives.{HeldBlocks, OnlyLoses, at_slot}
 
 -- the slot that was changed
-pub at_slot-here : (held : Contents) (slot : ℕ) (block : Option (List ℕ)) → at_slot held slot block slot ≡ block
+pub at_slot-here : (held : HeldBlocks) (slot : ℕ) (block : Option (List ℕ)) → at_slot held slot block slot ≡ block
 at_slot-here held slot block = elim (eqb_tells slot slot) [ inl e ↦ rw e.0 refl | inr e ↦ absurd (e.1 refl) ]
 
 -- any other slot
-pub at_slot-else : (held : Contents) (slot : ℕ) (block : Option (List ℕ)) (k : ℕ) → k ≢ slot → at_slot held slot block k ≡ held k
+pub at_slot-else : (held : HeldBlocks) (slot : ℕ) (block : Option (List ℕ)) (k : ℕ) → k ≢ slot → at_slot held slot block k ≡ held k
 at_slot-else held slot block k differs = elim (eqb_tells k slot) [ inl e ↦ absurd (differs e.1) | inr e ↦ rw e.0 refl ]
 
-pub loses_nothing : (held : Contents) (now : ℕ) → OnlyLoses held held now now
+pub loses_nothing : (held : HeldBlocks) (now : ℕ) → OnlyLoses held held now now
 loses_nothing held now = record { later = omega arith; keeps = (λ k b h. h); same = (λ k q l. refl) }
 
-pub loses_more : (a b c : Contents) (first before now : ℕ) → OnlyLoses a b first before → OnlyLoses b c before now
+pub loses_more : (a b c : HeldBlocks) (first before now : ℕ) → OnlyLoses a b first before → OnlyLoses b c before now
     → OnlyLoses a c first now
 loses_more a b c first before now o p = record {
   later = omega (arith, o.later, p.later);
@@ -25,7 +25,7 @@ loses_more a b c first before now o p = record {
 }
 
 -- losses before a write are losses after it
-pub loses_under : (a b : Contents) (before now slot : ℕ) (block : Option (List ℕ)) → OnlyLoses a b before now
+pub loses_under : (a b : HeldBlocks) (before now slot : ℕ) (block : Option (List ℕ)) → OnlyLoses a b before now
     → OnlyLoses (at_slot a slot block) (at_slot b slot block) before now
 loses_under a b before now slot block o = record {
   later = o.later;

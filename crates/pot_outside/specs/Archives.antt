@@ -12,29 +12,29 @@ use Rattle.pot_outside.specs.declared.faults.Failed.{Failed}
 use Rattle.pot_outside.specs.Counts.{Caused}
 
 -- the block of each slot
-abbrev pub Contents : Type 0
-Contents = ℕ → Option (List ℕ)
+abbrev pub HeldBlocks : Type 0
+HeldBlocks = ℕ → Option (List ℕ)
 
 -- the contents with this in the place of one slot's
-abbrev pub at_slot : Contents → ℕ → Option (List ℕ) → Contents
+abbrev pub at_slot : HeldBlocks → ℕ → Option (List ℕ) → HeldBlocks
 at_slot held slot block k = if k == slot then block else held k
 
 -- No block is new or altered. While the count of losses stays below its last value and does not
 -- rise, none is gone.
-pub record OnlyLoses (old new : Contents) (before now : ℕ) : Type 0 where
+pub record OnlyLoses (old new : HeldBlocks) (before now : ℕ) : Type 0 where
   pub later : before ≤ now
   pub keeps : (k : ℕ) (b : List ℕ) → new k ≡ Some b → old k ≡ Some b
   pub same : (k : ℕ) → now ≡ before → now < 2 ^ 64 - 1 → new k ≡ old k
 
 -- `Held`: the buffer is the slot's block; `Absent`: the slot has none
-abbrev pub ReadTells : Contents → ℕ → List ℕ → Result IsHeld Failed → Type 0
+abbrev pub ReadTells : HeldBlocks → ℕ → List ℕ → Result IsHeld Failed → Type 0
 ReadTells held slot into (Ok Held) = held slot ≡ Some into
 ReadTells held slot into (Ok Absent) = held slot ≡ None
 ReadTells held slot into (Err e) = Unit {0}
 
 -- `Held`: the sum became the old sum XOR the weight times the slot's block; `Absent`: the slot has
 -- none
-abbrev pub FoldTells : Contents → ℕ → ℕ → List ℕ → List ℕ → Result IsHeld Failed → Type 0
+abbrev pub FoldTells : HeldBlocks → ℕ → ℕ → List ℕ → List ℕ → Result IsHeld Failed → Type 0
 FoldTells held slot weight before after (Ok Held) =
     (block : List ℕ) × (held slot ≡ Some block) × IsBlock block
     × (after ≡ xor before (scaled weight block))
@@ -54,7 +54,7 @@ HearsFold old new slot sum (Ok h) = new ≡ old ++ (slot, sum) ∷ []
 HearsFold old new slot sum (Err e) = (new ≡ old) ⊎ (new ≡ old ++ (slot, sum) ∷ [])
 
 -- a write puts the block into its slot, or fails and leaves what it may; then blocks may be lost
-abbrev pub WriteTells : Contents → Contents → ℕ → ℕ → ℕ → List ℕ → Result (Unit {0}) Failed → Type 0
+abbrev pub WriteTells : HeldBlocks → HeldBlocks → ℕ → ℕ → ℕ → List ℕ → Result (Unit {0}) Failed → Type 0
 WriteTells old new before now slot block (Ok u) =
     OnlyLoses (at_slot old slot (Some block)) new before now
 WriteTells old new before now slot block (Err e) =
@@ -67,17 +67,17 @@ Remembers old new block (Ok u) = new ≡ old ++ block ∷ []
 Remembers old new block (Err e) = (new ≡ old) ⊎ (new ≡ old ++ block ∷ [])
 
 -- every block that is held is among those that were ever held
-abbrev pub IsRemembered : Contents → List (List ℕ) → Type 0
+abbrev pub IsRemembered : HeldBlocks → List (List ℕ) → Type 0
 IsRemembered held history = (k : ℕ) (b : List ℕ) → held k ≡ Some b → Contains history b
 
 -- no slot from 2^32 on holds a block: a slot's number has 32 bits
-abbrev pub HoldsLow : Contents → Type 0
+abbrev pub HoldsLow : HeldBlocks → Type 0
 HoldsLow held = (k : ℕ) (b : List ℕ) → held k ≡ Some b → k < 2 ^ 32
 
 -- What an archive means: the blocks, those ever held, the sums heard, and the two counts. Where
 -- archives don't tell what they hold, only the count of faults is meant.
 pub record Meaning : Type 0 where
-  pub held : Contents
+  pub held : HeldBlocks
   pub history : List (List ℕ)
   pub heard : List (ℕ × List ℕ)
   pub faults : ℕ
@@ -88,6 +88,14 @@ pub record Meaning : Type 0 where
 pub record IsCoherent (m : Meaning) : Type 0 where
   pub past : IsRemembered m.held m.history
   pub low : HoldsLow m.held
+
+-- an archive that holds no block and never held one, heard no sum, never failed and lost nothing
+pub record IsVacant (m : Meaning) : Type 0 where
+  pub blocks : (slot : ℕ) → m.held slot ≡ None
+  pub past : m.history ≡ []
+  pub sums : m.heard ≡ []
+  pub faulted : m.faults ≡ 0
+  pub lost : m.losses ≡ 0
 
 -- two meanings say the same
 pub record IsMeant (m n : Meaning) : Type 0 where

@@ -26,13 +26,13 @@ seen (Wrote at bytes ∷ older) place = laid_over (seen older) at bytes place
 seen (Synced ∷ older) place = seen older place
 
 -- the place lies in this many places from a first one on
-abbrev pub IsWithin : ℕ → ℕ → ℕ → Type 0
-IsWithin at count place = (at ≤ place) × (place < at + count)
+abbrev pub IsPlaceWithin : ℕ → ℕ → ℕ → Type 0
+IsPlaceWithin at count place = (at ≤ place) × (place < at + count)
 
 -- a write that covers the place began after the last sync that answered Ok
 unfoldable pub IsPending : List DiskCall → ℕ → Type 0
 IsPending [] place = ⊥
-IsPending (Wrote at bytes ∷ older) place = IsWithin at (length bytes) place ⊎ IsPending older place
+IsPending (Wrote at bytes ∷ older) place = IsPlaceWithin at (length bytes) place ⊎ IsPending older place
 IsPending (Synced ∷ older) place = ⊥
 
 -- A crash leaves any bytes where writes are pending, and elsewhere the byte that a read gives.

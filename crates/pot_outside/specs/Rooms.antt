@@ -1,12 +1,12 @@
 -- What a room of archives means, and what a call met of one.
-use Rattle.std.specs.Prelude.{◌≡◌, ℕ, Bool, false}
+use Rattle.std.specs.Prelude.{◌≡◌, ◌⊎◌, ℕ, Bool, false}
 use Rattle.pot_outside.specs.Accounts.{Account, Transition, transition_by}
-use Rattle.pot_outside.specs.Archives.{Meaning}
+use Rattle.pot_outside.specs.Archives.{Meaning, IsMeant}
 
--- What a room means: whether the archive of each number is out; what it means by each number that
--- is not, where a number without an archive means an empty one; for each number that is out the
--- archive's count of faults when it was taken; how often the room failed, and the archives that it
--- lent and got back; and how often it failed itself.
+-- What a room means: whether the archive of each number is out; what it means by each number, where
+-- one without an archive means an empty one, and so does one whose archive was taken; for each
+-- number that is out the archive's count of faults when it was taken; how often the room failed,
+-- and the archives that it lent and got back; and how often it failed itself.
 pub record RoomState : Type 0 where
   pub out : ℕ → Bool
   pub means : ℕ → Meaning
@@ -26,6 +26,11 @@ StaysAt old new n = (new.means n ≡ old.means n) × (new.out n ≡ old.out n)
 abbrev pub IsLeft : RoomState → RoomState → ℕ → Type 0
 IsLeft old new n =
     (new.means n ≡ old.means n) × (new.out n ≡ old.out n) × (new.lent n ≡ old.lent n)
+
+-- where an archive was to come back, the number means what it meant while the archive was out, or
+-- that archive
+abbrev pub MayLose : Meaning → Meaning → Meaning → Type 0
+MayLose out archive now = (now ≡ out) ⊎ IsMeant now archive
 
 -- what a call met of a room, which tells what its archives hold exactly where they do
 abbrev pub room_transition : {A R : Type 0} → Account A Meaning → (R → RoomState) → R → R → Transition RoomState

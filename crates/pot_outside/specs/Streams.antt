@@ -1,7 +1,5 @@
--- What a call of a source or a sink does to its bytes, and a call of a desk to its image.
-use Rattle.std.specs.Prelude.{◌≡◌, ◌<◌, ◌≤◌, ◌++◌, ℕ, List, [], length, take, Option, Some, Result}
-use Rattle.std.specs.Prelude.{Ok, Err}
-use Rattle.pot_outside.specs.Failing.{MayLeave}
+-- What a call of a source or a sink does to its bytes.
+use Rattle.std.specs.Prelude.{◌≡◌, ◌<◌, ◌≤◌, ◌++◌, ℕ, List, [], length, take, Result, Ok, Err}
 use Rattle.pot_outside.specs.declared.faults.Failed.{Failed}
 
 -- `Ok(count)`: the first `count` bytes of the buffer are the next `count` bytes. None into a buffer
@@ -14,9 +12,9 @@ ReadsNext before after into (Err e) = after ≡ before
 
 -- `Ok(count)`: the first `count` bytes were appended. A failed write appends some first bytes, or
 -- none.
-abbrev pub Appends : List ℕ → List ℕ → List ℕ → Result ℕ Failed → Type 0
-Appends before after from (Ok count) = after ≡ before ++ take count from
-Appends before after from (Err e) =
+abbrev pub SinkAppends : List ℕ → List ℕ → List ℕ → Result ℕ Failed → Type 0
+SinkAppends before after from (Ok count) = after ≡ before ++ take count from
+SinkAppends before after from (Err e) =
     (count : ℕ) × (count ≤ length from) × (after ≡ before ++ take count from)
 
 -- a count of bytes moved lies within the buffer
@@ -28,8 +26,3 @@ Within buffer (Err e) = Unit {0}
 abbrev pub TakesSome : List ℕ → Result ℕ Failed → Type 0
 TakesSome from (Ok count) = 0 < length from → 0 < count
 TakesSome from (Err e) = Unit {0}
-
--- what the replacing of a desk's image does
-abbrev pub Replaces : Option (List ℕ) → Option (List ℕ) → List ℕ → Result (Unit {0}) Failed → Type 0
-Replaces before after image (Ok u) = after ≡ Some image
-Replaces before after image (Err e) = MayLeave before image after

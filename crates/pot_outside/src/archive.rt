@@ -63,7 +63,8 @@ pub trait Archive {
         ensures writes { Writes (IsTrue account.tells) slot block.now result
             (account.meaning self.old) (account.meaning self.new) };
 
-    /// The counts now. It loses nothing. A slot's number has 32 bits, so no other slot holds a block.
+    /// The counts now. It loses nothing. A slot's number has 32 bits, so no other slot holds a
+    /// block.
     fn marks(&self) -> Marks
         ensures marks { IsMarked (IsTrue account.tells) (account.meaning self.now) result }
         ensures silent { account.tells ≡ false → result.losses ≡ 0 };

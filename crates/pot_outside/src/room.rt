@@ -1,8 +1,8 @@
 ghost use Rattle.std.specs.Prelude.{◌≡◌, ◌≢◌, ℕ, IsTrue, IfOk, OnOk, OnErr, IsErr, IsErrOf};
 ghost use Rattle.std.specs.Prelude.{true, false};
 ghost use Rattle.pot_outside.specs.Counts.{Caused, Rose};
-ghost use Rattle.pot_outside.specs.Archives.{IsMeant};
-ghost use Rattle.pot_outside.specs.Rooms.{RoomState, IsLeft};
+ghost use Rattle.pot_outside.specs.Archives.{IsMeant, IsVacant};
+ghost use Rattle.pot_outside.specs.Rooms.{RoomState, IsLeft, MayLose};
 
 use crate::{Archive, Failed, RoomFault};
 
@@ -12,11 +12,11 @@ use crate::{Archive, Failed, RoomFault};
 pub trait Room {
     type A: Archive + Send;
 
-    /// What a room means: which archives are out, what it means by each number that is not out, and
-    /// how often it failed.
+    /// What a room means: which archives are out, what it means by each number, and how often it
+    /// failed.
     ghost meaning: { Self → RoomState };
 
-    /// Hands out the archive of a number.
+    /// Hands out the archive of a number. While it is out, the number means an empty one.
     ///
     /// # Errors
     /// `Failed` only where both counts of the room rose, and that of its own failures rises at no
@@ -28,6 +28,7 @@ pub trait Room {
         ensures lends { IfOk result (λ a.
             (meaning self.new).lent number ≡ (Self.A.account.meaning a).faults) }
         ensures taken { OnOk result ((meaning self.new).out number ≡ true) }
+        ensures vacates { OnOk result (IsVacant ((meaning self.new).means number)) }
         ensures refused { OnErr result ((meaning self.new).out number ≡ false) }
         ensures unchanged { OnErr result
             ((meaning self.new).means number ≡ (meaning self.old).means number) }
@@ -41,8 +42,9 @@ pub trait Room {
         ensures starved { IsErrOf result RoomFault.NoMemory
             → (meaning self.new).failures ≡ (meaning self.old).failures };
 
-    /// Takes an archive back. After `Ok` it is in the room again; after a failure it may be lost.
-    /// Where the archive failed while it was out, the room's count of faults rises.
+    /// Takes an archive back. After `Ok` it is in the room again; after a failure it may be lost,
+    /// and the number then means what it meant while the archive was out. Where the archive failed
+    /// while it was out, the room's count of faults rises.
     ///
     /// # Errors
     /// `Failed` only where both counts of the room rose, and that of its own failures rises at no
@@ -51,6 +53,8 @@ pub trait Room {
         requires { (meaning self.old).out number ≡ true }
         ensures told { OnOk result (IsTrue Self.A.account.tells
             → IsMeant ((meaning self.new).means number) (Self.A.account.meaning archive)) }
+        ensures lost { OnErr result (MayLose ((meaning self.old).means number)
+            (Self.A.account.meaning archive) ((meaning self.new).means number)) }
         ensures back { (meaning self.new).out number ≡ false }
         ensures others { (n : ℕ) → n ≢ number
             → IsLeft (meaning self.old) (meaning self.new) n }

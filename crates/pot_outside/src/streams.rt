@@ -1,6 +1,6 @@
 ghost use Rattle.std.specs.Prelude.{ℕ, List, IsTrue, IsErr};
 ghost use Rattle.pot_outside.specs.Accounts.{Account, Content, Faults};
-ghost use Rattle.pot_outside.specs.Streams.{ReadsNext, Appends, Within, TakesSome};
+ghost use Rattle.pot_outside.specs.Streams.{ReadsNext, SinkAppends, Within, TakesSome};
 
 use crate::Failed;
 
@@ -36,7 +36,7 @@ pub trait Sink {
     /// appended.
     fn write(&mut self, from: &[u8]) -> Result<usize, Failed>
         ensures told { IsTrue account.tells
-            → Appends (account.meaning self.old).held (account.meaning self.new).held from.now
+            → SinkAppends (account.meaning self.old).held (account.meaning self.new).held from.now
             result }
         ensures within { Within from.now result }
         ensures some { TakesSome from.now result }

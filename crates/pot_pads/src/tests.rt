@@ -32,7 +32,8 @@ fn goes_on_at_each_cut(rt: HostRuntime) {
 }
 
 // Bytes 301 to 308, inside a word of the fifth block, computed apart from this crate by a ChaCha20
-// with a 64-bit counter and the number of the stream as its last two words, at the seed 0, 1, .. 31.
+// with a 64-bit counter and the number of the stream as its last two words, at the seed 0, 1, ..
+// 31.
 #[test]
 fn takes_the_session_above_the_job(rt: HostRuntime) {
     let mut seed = [0u8; 32];

@@ -28,7 +28,8 @@ Contains-named names entry = (
       ),
 )
 
--- an entry is among the candidates exactly where its name stands at its position and has the pointer as its blur
+-- an entry is among the candidates exactly where its name stands at its position and has the
+-- pointer as its blur
 pub Contains-candidates : (names : List ℕ) (pointer bits : ℕ) (found : List Named)
     → IsPermutation (filter (is_meant pointer bits) (named names)) found
     → (entry : Named) → Contains found entry ↔ IsCandidate names pointer bits entry

@@ -1,4 +1,5 @@
--- What a filter keeps of a permutation, of a part that passes and of one that does not, and whether an element is kept.
+-- What a filter keeps of a permutation, of a part that passes and of one that does not, and whether
+-- an element is kept.
 use Rattle.std.proofs.Common.{◌≡◌, ℕ, zero, suc, ◌<◌, ◌≤◌, Bool, true, false, cond, ◌↔◌, List, [], ◌∷◌, ◌++◌, filter, length, get_or, set, swap, take, drop, refl, sym, ap, ◌∙◌, subst, arith, append-nil, IsPermutation}
 use Rattle.std.specs.Prelude.{All, Contains, slice_range}
 use Rattle.std.specs.List.{AllByRecursion}

@@ -14,6 +14,6 @@ abbrev pub names_of : List Named → List ℕ
 names_of table = map (name_at table) (range_with_len 0 (length table))
 
 -- a table has each of its names at its position, in order
-pub record IsTable (table : List Named) : Type 0 where
+pub record IsNameTable (table : List Named) : Type 0 where
   pub whole : IsPermutation (named (names_of table)) table
   pub order : AllPairs IsBefore table

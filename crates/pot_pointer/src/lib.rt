@@ -1,7 +1,8 @@
 //! Pointers of shards: a name with its low bits cleared, and the index that finds the names that a
 //! pointer may mean.
 //!
-//! It knows no shard, no ring and no block: it finds names by their blur, and says where they stand.
+//! It knows no shard, no ring and no block: it finds names by their blur, and says where they
+//! stand.
 //!
 //! 1. A `RegionIndex` has each name of its list at its position, once: `RegionIndex`'s invariant.
 //! 2. Its table is in order, by name and then by position, so that the names of one pointer stand
@@ -57,13 +58,13 @@ pub struct RegionIndex {
 
 impl Model for RegionIndex {
     ghost use Rattle.std.specs.Prelude.{List, ℕ};
-    ghost use Rattle.pot_pointer.specs.Inside.{names_of, IsTable};
+    ghost use Rattle.pot_pointer.specs.Inside.{names_of, IsNameTable};
 
     ghost Value = { List ℕ };
 
     ghost view = { λ a. names_of a.entries.items };
 
-    ghost invariant = { λ a. IsTable a.entries.items };
+    ghost invariant = { λ a. IsNameTable a.entries.items };
 }
 
 impl RegionIndex {

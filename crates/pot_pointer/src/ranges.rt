@@ -5,7 +5,8 @@ ghost use Rattle.std.specs.declared.cmp.Ordering.{Ordering};
 
 use std::cmp::Ordering;
 
-/// The items that compare equal, which stand side by side where what `compare` answers rises along the items.
+/// The items that compare equal, which stand side by side where what `compare` answers rises along
+/// the items.
 pub fn equal_range<T, F: Fn(&T) -> Ordering>(items: &[T], compare: F) -> &[T]
     requires { F.IsAlwaysCallable compare }
     ensures { (at : T → Ordering)

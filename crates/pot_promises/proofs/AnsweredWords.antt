@@ -3,7 +3,8 @@ use Rattle.std.proofs.Common.{◌≡◌, inl, inr, ℕ, true, false, List, [], �
 use Rattle.std.specs.Prelude.{IsTrue, IsSome, codes, if◌then◌else◌, unwrap_or}
 use Rattle.std.proofs.lemmas.Option.{same_Some}
 use Rattle.pot_bytes.specs.declared.rack.Rack.{Rack}
-use Rattle.pot_outside.specs.Accounts.{Transition, held_in}
+use Rattle.pot_outside.specs.Accounts.{Transition}
+use Rattle.pot_outside.specs.Desks.{image_met}
 use Rattle.pot_outside.specs.Rooms.{RoomState}
 use Rattle.pot_outside.specs.declared.faults.Failed.{Failed}
 use Rattle.pot_options.specs.Options.{Text}
@@ -18,14 +19,14 @@ use Rattle.pot_image.specs.declared.fault.ImageFault.TheVariants as faults
 use Rattle.pot_image.specs.declared.image.Image.{Image}
 use Rattle.pot_image.specs.Images.{Contents, contents, AnswersImage}
 use Rattle.pot_audit.specs.Loose.{loose_columns}
-use Rattle.pot_commands.specs.Streams.{Wrote, Writes}
+use Rattle.pot_commands.specs.Streams.{Wrote, WritesText}
 use Rattle.pot_session.specs.declared.ending.status.Status.{Status}
 use Rattle.pot_session.specs.declared.ending.status.Status.TheVariants as status
 use Rattle.pot_session.specs.declared.ending.stop.Stop.{Stop}
 use Rattle.pot_session.specs.declared.ending.stop.Stop.TheVariants as stop
-use Rattle.pot_session.specs.Audits.{Audits, AuditAnswers, PutsAll, are_of, loose_of, spots_of}
+use Rattle.pot_session.specs.Audits.{Audits, AuditAnswers, PutsWholeAudit, are_of, loose_of, spots_of}
 use Rattle.pot_session.specs.Audits.{Stopped, Outside, Told}
-use Rattle.pot_session.specs.Calls.{Runs, Nothing, Short, Makes, Session, Drilling, Recovering, Auditing, Generating}
+use Rattle.pot_session.specs.Calls.{RunsProgram, Nothing, Short, Makes, Session, Drilling, Recovering, Auditing, Generating}
 use Rattle.pot_session.specs.Desks.{HoldsImage, IsImageStop, RefusesBytes, RefusesDesk}
 use Rattle.pot_session.specs.Drills.{ArePair, Drilled, DrillsTo, Explained, Exposed, exposed_text}
 use Rattle.pot_session.specs.Generating.{Generates, IsGenerated, Starved, answer_of, is_answered, summary}
@@ -38,7 +39,7 @@ use Rattle.pot_session.specs.Stops.{Refuses, status_of, stop_text}
 use Rattle.pot_session.specs.Tasks.{AsksNothing}
 use Rattle.pot_session.specs.Telling.{WordAnswers, told_status}
 use Rattle.pot_promises.specs.Complete.{IsFault}
-use Rattle.pot_promises.specs.Words.{AreAllHeld, AuditAnswered, DrillAnswered, GenerateAnswered, InitAnswered, NoneLost, RecoverAnswered, WordsAreAnswered}
+use Rattle.pot_promises.specs.Words.{AreAllHeld, AuditAnswered, DrillAnswered, GenerateAnswered, InitAnswered, NoArchiveLost, RecoverAnswered, WordsAreAnswered}
 use Rattle.pot_promises.proofs.Answering.{IsReadAs, held_read, no_fault_in, not_bare, one_held}
 
 none_some : {X : Type 0} (o : Option X) → IsSome o → o ≡ None → ⊥
@@ -54,7 +55,7 @@ drill_or_audit : codes "drill" ≡ codes "audit" → ⊥
 drill_or_audit e = (let f : 100 ≡ 97 = ap first_letter e in omega (arith, f))
 
 -- which blocks were read where none was lost
-all_held : (archives stripes : ℕ) (room : Transition RoomState) (blocks : List (List ℕ)) → AreHeldIn archives stripes room.before.means room.after.means blocks → NoneLost archives room → AreAllHeld archives stripes room.before blocks
+all_held : (archives stripes : ℕ) (room : Transition RoomState) (blocks : List (List ℕ)) → AreHeldIn archives stripes room.before.means room.after.means blocks → NoArchiveLost archives room → AreAllHeld archives stripes room.before blocks
 all_held archives stripes room blocks held none = record {
   only = held.only;
   all = λ n b lt is. (let x = none n lt in held.all n lt x.0 x.1 b is);
@@ -73,7 +74,7 @@ module _ (answer : Status) (fine : IsFault answer → ⊥) (had : answer ≡ sta
   -- INIT
 
   module _ (rack : Rack) (desk : Transition (Option (List ℕ))) (sink : Transition (List ℕ)) where
-    made_by : (made : Result (Unit {0}) Stop) → making.Makes rack desk made → InitAnswers sink made answer → InitAnswered rack desk sink answer
+    made_by : (made : Result (Unit {0}) Stop) → making.MakesDesk rack desk made → InitAnswers sink made answer → InitAnswered rack desk sink answer
     made_by (Ok u) m (inl p) = record { none = λ e. (p.0, m.1, p.1); some = λ s. absurd (none_some desk.before s m.0) }
     made_by (Ok u) m (inr p) = absurd (no status.SinkFault tt p.0)
     made_by (Err stop.Exists) m a = (let r = refuses sink stop.Exists a in record { none = λ e. absurd (none_some desk.before m.0 e); some = λ s. (r.0, m.1, r.1) })
@@ -191,7 +192,7 @@ module _ (answer : Status) (fine : IsFault answer → ⊥) (had : answer ≡ sta
         outside = λ j h f. absurd (cc (same_are j h, t, f));
         told = λ j h q. (
           found,
-          subst (λ (v : Contents). PutsAll sink v.rack (spots_of a) v.records (if a.loose then loose_columns v.rack (spots_of a) v.tables v.records else []) (Ok found)) (sym (same j h)) puts,
+          subst (λ (v : Contents). PutsWholeAudit sink v.rack (spots_of a) v.records (if a.loose then loose_columns v.rack (spots_of a) v.tables v.records else []) (Ok found)) (sym (same j h)) puts,
           is,
         );
       }
@@ -217,7 +218,7 @@ module _ (answer : Status) (fine : IsFault answer → ⊥) (had : answer ≡ sta
   generate_answered number sink (Starved is stays) = absurd (had is)
   generate_answered number sink (generating.Told bytes ended is answered wrote writes answers) = by wrote writes answers
     where
-      by : (wrote : Result (Unit {0}) Failed) → Writes sink (summary number bytes) wrote → answer ≡ answer_of ended wrote → GenerateAnswered number sink answer
+      by : (wrote : Result (Unit {0}) Failed) → WritesText sink (summary number bytes) wrote → answer ≡ answer_of ended wrote → GenerateAnswered number sink answer
       by (Ok u) writes same = record {
         bytes = bytes;
         generated = subst (λ s. IsGenerated number bytes s) (sym same) is;
@@ -229,18 +230,18 @@ module _ (answer : Status) (fine : IsFault answer → ⊥) (had : answer ≡ sta
   -- THE WHOLE
 
   module _ (words : List Text) (drawn : List ℕ) (seen : Seen) where
-    init_of : (given : Rack) → SpellTask words (task.Init given) → IsTrue seen.desk.tells → Runs words drawn seen answer
-        → (rack : Rack) × SpellTask words (task.Init rack) × InitAnswered rack (held_in seen.desk) seen.sink answer
+    init_of : (given : Rack) → SpellTask words (task.Init given) → IsTrue seen.desk.tells → RunsProgram words drawn seen answer
+        → (rack : Rack) × SpellTask words (task.Init rack) × InitAnswered rack (image_met seen.desk) seen.sink answer
     init_of given spells told (Nothing none unread refused same room) = absurd (none (task.Init given) spells)
     init_of given spells told (Short is unread sink same room) = absurd (had is)
-    init_of given spells told (Makes rack that unread inits room) = (rack, that, init_answered rack (held_in seen.desk) seen.sink told inits)
+    init_of given spells told (Makes rack that unread inits room) = (rack, that, init_answered rack (image_met seen.desk) seen.sink told inits)
     init_of given spells told (Session run that it) = absurd (cc (one_kind words (task.Init given) (task.Run run) spells that))
     init_of given spells told (Drilling d that it same room) = absurd (cc (one_kind words (task.Init given) (task.Drill d) spells that))
     init_of given spells told (Recovering r that unread it same) = absurd (cc (one_kind words (task.Init given) (task.Recover r) spells that))
     init_of given spells told (Auditing a that unread it same room) = absurd (cc (one_kind words (task.Init given) (task.Audit a) spells that))
     init_of given spells told (Generating n that unread it same room) = absurd (cc (one_kind words (task.Init given) (task.Generate n) spells that))
 
-    drill_of : (given : Drill) → SpellTask words (task.Drill given) → IsTrue seen.source.tells → Runs words drawn seen answer
+    drill_of : (given : Drill) → SpellTask words (task.Drill given) → IsTrue seen.source.tells → RunsProgram words drawn seen answer
         → (d : Drill) × SpellTask words (task.Drill d) × DrillAnswered d (unwrap_or d.seed drawn) seen.source seen.sink answer
     drill_of given spells told (Nothing none unread refused same room) = absurd (none (task.Drill given) spells)
     drill_of given spells told (Short is unread sink same room) = absurd (had is)
@@ -251,7 +252,7 @@ module _ (answer : Status) (fine : IsFault answer → ⊥) (had : answer ≡ sta
     drill_of given spells told (Auditing a that unread it same room) = absurd (drill_or_audit (one_kind words (task.Drill given) (task.Audit a) spells that))
     drill_of given spells told (Generating n that unread it same room) = absurd (cc (one_kind words (task.Drill given) (task.Generate n) spells that))
 
-    recover_of : (given : Recover) → SpellTask words (task.Recover given) → IsTrue seen.room.tells → Runs words drawn seen answer
+    recover_of : (given : Recover) → SpellTask words (task.Recover given) → IsTrue seen.room.tells → RunsProgram words drawn seen answer
         → (r : Recover) × SpellTask words (task.Recover r) × RecoverAnswered r seen.room seen.sink answer
     recover_of given spells told (Nothing none unread refused same room) = absurd (none (task.Recover given) spells)
     recover_of given spells told (Short is unread sink same room) = absurd (had is)
@@ -262,18 +263,18 @@ module _ (answer : Status) (fine : IsFault answer → ⊥) (had : answer ≡ sta
     recover_of given spells told (Auditing a that unread it same room) = absurd (cc (one_kind words (task.Recover given) (task.Audit a) spells that))
     recover_of given spells told (Generating n that unread it same room) = absurd (cc (one_kind words (task.Recover given) (task.Generate n) spells that))
 
-    audit_of : (given : Audit) → SpellTask words (task.Audit given) → IsTrue seen.desk.tells → Runs words drawn seen answer
-        → (a : Audit) × SpellTask words (task.Audit a) × AuditAnswered a (held_in seen.desk) seen.sink answer
+    audit_of : (given : Audit) → SpellTask words (task.Audit given) → IsTrue seen.desk.tells → RunsProgram words drawn seen answer
+        → (a : Audit) × SpellTask words (task.Audit a) × AuditAnswered a (image_met seen.desk) seen.sink answer
     audit_of given spells told (Nothing none unread refused same room) = absurd (none (task.Audit given) spells)
     audit_of given spells told (Short is unread sink same room) = absurd (had is)
     audit_of given spells told (Makes rack that unread inits room) = absurd (cc (one_kind words (task.Audit given) (task.Init rack) spells that))
     audit_of given spells told (Session run that it) = absurd (cc (one_kind words (task.Audit given) (task.Run run) spells that))
     audit_of given spells told (Drilling d that it same room) = absurd (drill_or_audit (sym (one_kind words (task.Audit given) (task.Drill d) spells that)))
     audit_of given spells told (Recovering r that unread it same) = absurd (cc (one_kind words (task.Audit given) (task.Recover r) spells that))
-    audit_of given spells told (Auditing a that unread it same room) = (a, that, audit_answered a (held_in seen.desk) seen.sink told it)
+    audit_of given spells told (Auditing a that unread it same room) = (a, that, audit_answered a (image_met seen.desk) seen.sink told it)
     audit_of given spells told (Generating n that unread it same room) = absurd (cc (one_kind words (task.Audit given) (task.Generate n) spells that))
 
-    generate_of : (given : ℕ) → SpellTask words (task.Generate given) → Runs words drawn seen answer → (number : ℕ) × SpellTask words (task.Generate number) × GenerateAnswered number seen.sink answer
+    generate_of : (given : ℕ) → SpellTask words (task.Generate given) → RunsProgram words drawn seen answer → (number : ℕ) × SpellTask words (task.Generate number) × GenerateAnswered number seen.sink answer
     generate_of given spells (Nothing none unread refused same room) = absurd (none (task.Generate given) spells)
     generate_of given spells (Short is unread sink same room) = absurd (had is)
     generate_of given spells (Makes rack that unread inits room) = absurd (cc (one_kind words (task.Generate given) (task.Init rack) spells that))
@@ -283,7 +284,7 @@ module _ (answer : Status) (fine : IsFault answer → ⊥) (had : answer ≡ sta
     generate_of given spells (Auditing a that unread it same room) = absurd (cc (one_kind words (task.Generate given) (task.Audit a) spells that))
     generate_of given spells (Generating n that unread it same room) = (n, that, generate_answered n seen.sink it)
 
-    nothing_of : AsksNothing words → Runs words drawn seen answer → (answer ≡ status.WordsRefused) × Wrote seen.sink (stop_text stop.Words)
+    nothing_of : AsksNothing words → RunsProgram words drawn seen answer → (answer ≡ status.WordsRefused) × Wrote seen.sink (stop_text stop.Words)
     nothing_of none (Nothing n unread refused same room) = refuses seen.sink stop.Words refused
     nothing_of none (Short is unread sink same room) = absurd (had is)
     nothing_of none (Makes rack that unread inits room) = absurd (none (task.Init rack) that)

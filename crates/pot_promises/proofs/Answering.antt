@@ -7,7 +7,7 @@ use Rattle.pot_bytes.specs.declared.rack.Rack.{Rack}
 use Rattle.pot_options.specs.Options.{Text}
 use Rattle.pot_script.specs.declared.grouping.Step.{Step}
 use Rattle.pot_script.proofs.ScriptLemmas.{no_fault}
-use Rattle.pot_script.specs.Scripts.{LeavesAt}
+use Rattle.pot_script.specs.Scripts.{LeavesAtLine}
 use Rattle.pot_words.specs.Tasks.{SpellTask}
 use Rattle.pot_words.specs.declared.run.Run.{Run}
 use Rattle.pot_words.proofs.KindLemmas.{one_kind}
@@ -15,7 +15,7 @@ use Rattle.pot_words.specs.declared.task.Task.TheVariants as task
 use Rattle.pot_image.specs.declared.fault.ImageFault.{ImageFault}
 use Rattle.pot_image.specs.declared.fault.ImageFault.TheVariants as faults
 use Rattle.pot_image.specs.declared.image.Image.{Image}
-use Rattle.pot_image.specs.Images.{Contents, contents, image, Answered, Trailed, Measured, Numbered, Marked, AnswersImage}
+use Rattle.pot_image.specs.Images.{Contents, contents, image, AnsweredFields, Trailed, Measured, Numbered, Marked, AnswersImage}
 use Rattle.pot_image.specs.Fields.{IsOf}
 use Rattle.pot_image.specs.Spelling.{image_bytes}
 use Rattle.pot_image.proofs.ImageBack.{answers_back}
@@ -24,9 +24,9 @@ use Rattle.pot_session.specs.declared.ending.status.Status.{Status}
 use Rattle.pot_session.specs.declared.ending.status.Status.TheVariants as status
 use Rattle.pot_session.specs.declared.ending.stop.Stop.{Stop}
 use Rattle.pot_session.specs.declared.ending.stop.Stop.TheVariants as stop
-use Rattle.pot_session.specs.Calls.{Runs, Nothing, Short, Makes, Session, Drilling, Recovering, Auditing, Generating}
-use Rattle.pot_session.specs.Commands.{IsRead, RefusesScript}
-use Rattle.pot_session.specs.Desks.{CanGoOn, HoldsImage, IsLast, RefusesBytes, RefusesDesk, IsDeskStop, IsKeepStop}
+use Rattle.pot_session.specs.Calls.{RunsProgram, Nothing, Short, Makes, Session, Drilling, Recovering, Auditing, Generating}
+use Rattle.pot_session.specs.Commands.{IsScriptRead, RefusesScript}
+use Rattle.pot_session.specs.Desks.{CanGoOn, HoldsImage, IsLastSession, RefusesBytes, RefusesDesk, IsDeskStop, IsKeepStop}
 use Rattle.pot_session.specs.Runs.{Holds, Stopped, Served, Stops, AtDesk, AtScript, AtOpening, Seen}
 use Rattle.pot_session.specs.Serving.{IsEnd}
 use Rattle.pot_session.specs.Stops.{Refuses, status_of}
@@ -42,13 +42,13 @@ abbrev IsThat : Contents → Result Image ImageFault → Type 0
 IsThat v r = MatchResult r (λ i. contents i ≡ v) (λ e. e ≡ faults.NoMemory)
 
 module _ (i : Image) where
-  by_fault : (format : _) (body : List ℕ) → IsOf (image format) body (contents i) → (e : ImageFault) → Answered format body (Err e) → e ≡ faults.NoMemory
+  by_fault : (format : _) (body : List ℕ) → IsOf (image format) body (contents i) → (e : ImageFault) → AnsweredFields format body (Err e) → e ≡ faults.NoMemory
   by_fault format body is (faults.Form place) a = absurd (never_both (image format) body (contents i) a.0 is a.2)
   by_fault format body is faults.NoMemory a = refl
   by_fault format body is faults.Cut a = absurd a
   by_fault format body is (faults.Trailer kept computed) a = absurd a
 
-  by_fields : (format : _) (body : List ℕ) → Answered format body (Ok i) → (r : Result Image ImageFault) → Answered format body r → IsThat (contents i) r
+  by_fields : (format : _) (body : List ℕ) → AnsweredFields format body (Ok i) → (r : Result Image ImageFault) → AnsweredFields format body r → IsThat (contents i) r
   by_fields format body is (Ok j) a = once_value (image format) body (contents j) (contents i) a is
   by_fields format body is (Err e) a = by_fault format body is e a
 
@@ -125,7 +125,7 @@ module _ (answer : Status) (no_fault_said : IsFault answer → ⊥) (had_memory 
         same : contents j ≡ v
         same = one_held held v j reads (bytes, is, answers)
 
-        by : IsLast j → ⊥
+        by : IsLastSession j → ⊥
         by (inl number) = (let a = ap (λ (w : Contents). w.session) same in let g = goes_on.0 in omega (arith, g, number, a))
         by (inr full) = (let a = ap (λ (w : Contents). length w.records) same in let g = goes_on.1 in omega (arith, g, full, a))
 
@@ -147,10 +147,10 @@ module _ (answer : Status) (no_fault_said : IsFault answer → ⊥) (had_memory 
     at_desk stop.RoomFault d refused is = d
     at_desk stop.TooWide d refused is = d
 
-  at_script : (rack : Rack) (source : Transition (List ℕ)) (told : IsTrue source.tells) (steps : List Step) → IsRead rack source steps
+  at_script : (rack : Rack) (source : Transition (List ℕ)) (told : IsTrue source.tells) (steps : List Step) → IsScriptRead rack source steps
       → (s : Stop) → RefusesScript rack source s → answer ≡ status_of s → ⊥
   at_script rack source told steps read (stop.BadLine number) refused is =
-      no_fault read.script (subst (λ b. LeavesAt rack b number) (read.read told) (refused told))
+      no_fault read.script (subst (λ b. LeavesAtLine rack b number) (read.read told) (refused told))
   at_script rack source told steps read stop.SourceFault refused is = no_source is
   at_script rack source told steps read stop.NoMemory refused is = had_memory is
   at_script rack source told steps read stop.Words refused is = refused
@@ -204,15 +204,15 @@ ended_well status.TooWide e f m = absurd e
 -- THE WHOLE
 
 module _ (words : List Text) (drawn : List ℕ) (seen : Seen) (answer : Status) (source_told : IsTrue seen.source.tells) (desk_told : IsTrue seen.desk.tells)
-    (v : Contents) (reads : IsReadAs seen.desk.before.held v) (goes_on : CanGoOn v) (steps : List Step) (read : IsRead v.rack seen.source steps)
+    (v : Contents) (reads : IsReadAs seen.desk.before.held.now v) (goes_on : CanGoOn v) (steps : List Step) (read : IsScriptRead v.rack seen.source steps)
     (no_fault_said : IsFault answer → ⊥) (had_memory : answer ≡ status.NoMemory → ⊥) where
   stops_not : (s : Stop) → Stops seen.source (held_in seen.desk) s → answer ≡ status_of s → ⊥
-  stops_not s (AtDesk d refused same) is = at_desk answer no_fault_said had_memory seen.desk.before.held v reads goes_on s d (refused desk_told) is
+  stops_not s (AtDesk d refused same) is = at_desk answer no_fault_said had_memory seen.desk.before.held.now v reads goes_on s d (refused desk_told) is
   stops_not s (AtScript j goes holds_that refused same) is =
-      let rack : j.rack ≡ v.rack = ap (λ (w : Contents). w.rack) (one_held seen.desk.before.held v j reads (holds_that desk_told)) in
+      let rack : j.rack ≡ v.rack = ap (λ (w : Contents). w.rack) (one_held seen.desk.before.held.now v j reads (holds_that desk_told)) in
       at_script answer no_fault_said had_memory v.rack seen.source source_told steps read s
       (subst (λ r. RefusesScript r seen.source s) rack refused) is
-  stops_not s (AtOpening j others of k image keeps) is = at_keeping answer no_fault_said had_memory s k is
+  stops_not s (AtOpening j others of k image keeps came) is = at_keeping answer no_fault_said had_memory s k is
 
   held_well : (seed : List ℕ) (careful : Bool) → Holds seed careful seen answer → IsDone answer
   held_well seed careful (Stopped s stops refuses same) = absurd (refused_so answer no_fault_said had_memory seen.sink s refuses (stops_not s stops))
@@ -221,7 +221,7 @@ module _ (words : List Text) (drawn : List ℕ) (seen : Seen) (answer : Status) 
   abbrev Answers : Type 0
   Answers = IsDone answer × ((seed : List ℕ) × AsksSession words drawn seed × RanAs seed seen)
 
-  answered : (run : Run) → SpellTask words (task.Run run) → Runs words drawn seen answer → Answers
+  answered : (run : Run) → SpellTask words (task.Run run) → RunsProgram words drawn seen answer → Answers
   answered run spells (Nothing none unread refuses same room) = absurd (none (task.Run run) spells)
   answered run spells (Short is unread sink same room) = absurd (had_memory is)
   answered run spells (Makes rack other unread inits room) = absurd (cc (one_kind words (task.Run run) (task.Init rack) spells other))
@@ -236,11 +236,11 @@ module _ (words : List Text) (drawn : List ℕ) (seen : Seen) (answer : Status) 
 
 pub runs_are_answered : RunsAreAnswered
 runs_are_answered words drawn seen answer it source_told desk_told given (run, spells, is) i holds_it goes_on steps read no_fault_said had_memory =
-    answered words drawn seen answer source_told desk_told (contents i) (held_read seen.desk.before.held i holds_it) goes_on steps read no_fault_said had_memory run spells it
+    answered words drawn seen answer source_told desk_told (contents i) (held_read seen.desk.before.held.now i holds_it) goes_on steps read no_fault_said had_memory run spells it
 
 pub next_is_answered : NextIsAnswered
 next_is_answered words drawn seen answer it source_told desk_told given (run, spells, is) left has goes_on steps read no_fault_said had_memory =
-    answered words drawn seen answer source_told desk_told left (has_read seen.desk.before.held left has) goes_on steps read no_fault_said had_memory run spells it
+    answered words drawn seen answer source_told desk_told left (has_read seen.desk.before.held.now left has) goes_on steps read no_fault_said had_memory run spells it
 
 -- NO IMAGE IS REFUSED
 
@@ -302,17 +302,17 @@ module _ (answer : Status) (refused : answer ≡ status.ImageRefused) where
   ends_not : IsEnd answer → ⊥
   ends_not ends = subst IsEnd refused ends
 
-  module _ (seen : Seen) (told : IsTrue seen.desk.tells) (v : Contents) (reads : IsReadAs seen.desk.before.held v) where
+  module _ (seen : Seen) (told : IsTrue seen.desk.tells) (v : Contents) (reads : IsReadAs seen.desk.before.held.now v) where
     stopping : (s : Stop) → Stops seen.source (held_in seen.desk) s → answer ≡ status_of s → ⊥
-    stopping s (AtDesk d why same) is = desk_reads seen.desk.before.held v reads s d (why told) is
+    stopping s (AtDesk d why same) is = desk_reads seen.desk.before.held.now v reads s d (why told) is
     stopping s (AtScript j goes holds_that why same) is = script_reads j.rack seen.source s why is
-    stopping s (AtOpening j others of k image keeps) is = keeping s k is
+    stopping s (AtOpening j others of k image keeps came) is = keeping s k is
 
     held_not : (seed : List ℕ) (careful : Bool) → Holds seed careful seen answer → ⊥
     held_not seed careful (Stopped s stops refuses same) = refusing seen.sink s refuses (stopping s stops)
     held_not seed careful (Served j others of rules whole serves ends untouched) = ends_not ends
 
-    run_not : (words : List Text) (drawn : List ℕ) (run : Run) → SpellTask words (task.Run run) → Runs words drawn seen answer → ⊥
+    run_not : (words : List Text) (drawn : List ℕ) (run : Run) → SpellTask words (task.Run run) → RunsProgram words drawn seen answer → ⊥
     run_not words drawn run spells (Nothing none unread refuses same room) = none (task.Run run) spells
     run_not words drawn run spells (Short is unread sink same room) = other status.NoMemory (λ e. absurd (cc e)) is
     run_not words drawn run spells (Makes rack that unread inits room) = absurd (cc (one_kind words (task.Run run) (task.Init rack) spells that))
@@ -323,4 +323,4 @@ module _ (answer : Status) (refused : answer ≡ status.ImageRefused) where
     run_not words drawn run spells (Session that spelled it) = held_not (seed_of that drawn) that.careful it
 
 pub never_refused : NeverRefused
-never_refused words drawn seen answer runs told left has run spells refused = run_not answer refused seen told left (has_read seen.desk.before.held left has) words drawn run spells runs
+never_refused words drawn seen answer runs told left has run spells refused = run_not answer refused seen told left (has_read seen.desk.before.held.now left has) words drawn run spells runs

@@ -15,7 +15,7 @@ use Rattle.pot_index.specs.declared.entry.IndexEntry.TheVariants.{Find, Publish}
 use Rattle.pot_index.specs.declared.entry.Logged.{Logged}
 use Rattle.pot_index.specs.declared.record.Record.{Record}
 use Rattle.pot_index.specs.Entries.{bringing, is_of, plain}
-use Rattle.pot_index.specs.Index.{Names, Replays}
+use Rattle.pot_index.specs.Index.{Names, ReplaysIndex}
 use Rattle.pot_index.specs.Records.{mark_of}
 use Rattle.pot_index.proofs.IndexLemmas.{record_published}
 use Rattle.pot_index.proofs.NameLemmas.{contains_here}
@@ -29,7 +29,7 @@ use Rattle.pot_image.specs.Images.{Contents}
 use Rattle.pot_image.specs.Rules.{FitsTogether}
 use Rattle.pot_replies.specs.Digests.{NoTwoAlike}
 use Rattle.pot_replies.specs.Fetches.{Found, IsFetchLogFull}
-use Rattle.pot_replies.specs.Sections.{Section, Follows, MovesThenRest, mine, work_of}
+use Rattle.pot_replies.specs.Sections.{Section, FollowsSection, MovesThenRest, mine, work_of}
 use Rattle.pot_replies.specs.Sessions.{Replied}
 use Rattle.pot_replies.specs.Settings.{Setting}
 use Rattle.pot_store.proofs.FitLemmas.{fragment_within, point_within}
@@ -39,7 +39,7 @@ use Rattle.pot_session.specs.Losses.{BeginWith}
 use Rattle.pot_session.specs.Serving.{Leaves, setting_of}
 use Rattle.pot_promises.specs.Answers.{IsAnswered, job_at}
 use Rattle.pot_promises.specs.Chains.{IsSession}
-use Rattle.pot_promises.specs.Fetched.{Before, FetchAnswers, HasPlaceIn, Here, IsFull, SaysOf, WasStored, blocks_put}
+use Rattle.pot_promises.specs.Fetched.{Before, FetchAnswers, HasPlaceIn, Here, IsGroupLogFull, SaysOf, WasStored, blocks_put}
 use Rattle.pot_promises.specs.Odds.{WasOdd}
 use Rattle.pot_promises.proofs.Faulting.{faults_are_counted}
 use Rattle.pot_promises.proofs.Giving.{first_names, led, names_of, published_in, same_text, stored_keeps, transition}
@@ -52,7 +52,7 @@ use Rattle.pot_promises.proofs.Running.{all_lead}
 use Rattle.pot_promises.proofs.Walking.{HasRow, IsCut, behind_at, cut_at, row_at}
 
 module _ (seed : List ℕ) (first last : Contents) (room : Transition RoomState) (missing : List ℕ) (story : Section) (fits : FitsTogether first) (leaves : Leaves room missing first last story)
-    (ss : List Step) (rs : List Reply) (done later : Section) (follows : Follows done later story) (replied : Replied (Row (setting_of seed first)) 1 (steps_of ss) rs done)
+    (ss : List Step) (rs : List Reply) (done later : Section) (follows : FollowsSection done later story) (replied : Replied (Row (setting_of seed first)) 1 (steps_of ss) rs done)
     (whole : AllByRecursion (IsWholeStep first.rack) ss) (q j : ℕ) (name file : List ℕ) (was : WasStored name file first ss rs q) where
   abbrev s : Setting
   s = setting_of seed first
@@ -76,7 +76,7 @@ module _ (seed : List ℕ) (first last : Contents) (room : Transition RoomState)
 
   -- whatever came before the step and in it, the name has a record of the file's digest
   abbrev IsKept : Section → Type 0
-  IsKept one = (cut : IsCut one done) × ((rest : List Logged) (n : Names) → Replays first.rack (names_of first) (cut.index_earlier ++ rest) n → Has n name (digest_of file))
+  IsKept one = (cut : IsCut one done) × ((rest : List Logged) (n : Names) → ReplaysIndex first.rack (names_of first) (cut.index_earlier ++ rest) n → Has n name (digest_of file))
 
   kept_by : WasStored name file first ss rs q → (one : Section) → slice_get replied.ones q ≡ Some one → IsKept one
   kept_by (Here p i of pieces shards lt stored) one there =
@@ -134,12 +134,12 @@ module _ (seed : List ℕ) (first last : Contents) (room : Transition RoomState)
         kept.0.index_added
         ∙ (ap (λ l. kept.0.index_earlier ++ (l ++ kept.0.index_later)) parts.2
         ∙ (ap (λ l. kept.0.index_earlier ++ l) (append_assoc parts.0 (entry ∷ parts.1) kept.0.index_later) ∙ sym (append_assoc kept.0.index_earlier parts.0 back))) in
-        let cut = went_on first.rack (names_of first) it.sofar front back (subst (λ l. Replays first.rack (names_of first) l it.sofar) all it.to) in
+        let cut = went_on first.rack (names_of first) it.sofar front back (subst (λ l. ReplaysIndex first.rack (names_of first) l it.sofar) all it.to) in
         let no : false ≡ true = cut.2.0.1 (let has = kept.1 parts.0 cut.0 cut.1 in record_published cut.0 name has.its (has.there, has.named)) in
         cc no
 
     -- a log that was full once is so at the end
-    full : (group : ℕ) → IsFetchLogFull s job name group w → IsFull last group
+    full : (group : ℕ) → IsFetchLogFull s job name group w → IsGroupLogFull last group
     full group row =
         let r : Record = row.kept in
         let room_is = found_fits seed first last room missing story fits leaves done later follows job name r one halves kept.0 row.found in

@@ -13,7 +13,7 @@ use Rattle.pot_replies.specs.Sessions.{AreSections, Answered, Answers, jobs_in}
 use Rattle.pot_replies.specs.Settings.{Setting}
 use Rattle.pot_commands.specs.Rows.{Row}
 use Rattle.pot_commands.specs.Steps.{step_of, steps_of}
-use Rattle.pot_promises.specs.Answers.{IsAnswered, StandsAt, count_replies}
+use Rattle.pot_promises.specs.Answers.{IsAnswered, CommandStandsAt, count_replies}
 use Rattle.pot_promises.proofs.Walking.{answered_behind, line_row}
 use Rattle.pot_promises.proofs.Replying.{as_many}
 
@@ -34,7 +34,7 @@ first_of (x ∷ now) later r some first = first
 
 module _ (s : Setting) where
   here : (x : Step) (job i : ℕ) (now later rs : List Reply) (o w : Section) (h : MovesThenRest o) (c : Command) (r : Reply) → Answered (Row s) job (step_of x) now o h
-      → rs ≡ now ++ later → 0 < count_replies s.rack c → StandsAt x i c → slice_get rs i ≡ Some r
+      → rs ≡ now ++ later → 0 < count_replies s.rack c → CommandStandsAt x i c → slice_get rs i ≡ Some r
       → ((g : ℕ) (e : Entry) → Contains (o.added g) e → Contains (w.added g) e) → HasReply s w c r
   here (steps.One d) job i now later rs o w h c r row is some (none, same) at within =
       let its : Row s job c now o h = subst (λ x. Row s job x now o h) same row in
@@ -64,7 +64,7 @@ module _ (s : Setting) where
   reply_of [] job ones rs w k i c r are answers some answered = let no = answered.there in absurd (cc no)
   reply_of (x ∷ ss) job [] rs w k i c r are answers some answered = absurd are
   reply_of (x ∷ ss) job (o ∷ ones) rs w zero i c r (rest, follows, its, more) (h, now, later, is, row, behind) some answered =
-      here x job i now later rs o w h c r row is some (subst (λ y. StandsAt y i c) (sym (same_Some x answered.step answered.there)) answered.command)
+      here x job i now later rs o w h c r row is some (subst (λ y. CommandStandsAt y i c) (sym (same_Some x answered.step answered.there)) answered.command)
       (subst (λ n. slice_get rs n ≡ Some r) (let e : 0 + i ≡ i = omega arith in e) answered.reply)
       (λ g e there. subst (λ l. Contains l e) (sym (follows.is_added g)) (Contains-append_left (o.added g) (rest.added g) e there))
   reply_of (x ∷ ss) job (o ∷ ones) rs w (suc k) i c r (rest, follows, its, more) (h, now, later, is, row, behind) some answered =

@@ -9,18 +9,20 @@ use Rattle.pot_machine.specs.Table.{Table, archives_in}
 use Rattle.pot_steps.specs.declared.flight.Flight.{Flight}
 use Rattle.pot_shelves.specs.Shelves.{Shelves}
 use Rattle.pot_group.specs.Arrivals.{arrivals}
+use Rattle.pot_group.specs.Frames.{Tries}
 use Rattle.pot_group.specs.Group.{GroupView}
 use Rattle.pot_group.specs.Heard.{FlyBy}
 use Rattle.pot_shared.specs.Groups.{had_by}
 use Rattle.pot_shared.specs.Hands.{times}
-use Rattle.pot_shared.specs.Leaving.{AreWithin, IsWithin, LeavesGroup, Shows}
+use Rattle.pot_shared.specs.Leaving.{AreWithin, IsArchiveFramed, LeavesGroup, Shows}
 use Rattle.pot_session.specs.Serving.{IsInRoom}
 use Rattle.pot_session.proofs.LossLemmas.{get_within}
-use Rattle.pot_promises.specs.Frames.{FrameOfRun, IsFramed}
+use Rattle.pot_promises.specs.Frames.{FrameOfRun, IsSessionFramed}
 
 -- what is shown of an archive is what it means
-shown_framed : (read : Table) (log : List Entry) (givens : List (List ℕ)) (n : ℕ) (s : Shelves) (old new : Meaning) → IsWithin read log s n old givens → Shows s n new → IsFramed read log givens n old new
-shown_framed read log givens n s old new within shows = record {
+shown_framed : (read : Table) (log : List Entry) (tried : Tries) (givens : List (List ℕ)) (n : ℕ) (s : Shelves) (old new : Meaning) → IsArchiveFramed read log tried s n old givens → Shows s n new
+    → IsSessionFramed read log tried givens n old new
+shown_framed read log tried givens n s old new within shows = record {
   held = λ slot block l e. within.held slot block l (shows.blocks slot ∙ e);
   history = λ block h. within.history block (subst (λ bs. Contains bs block) (sym shows.history) h);
   heard = λ x h. within.heard x (subst (λ xs. Contains xs x) (sym shows.sums) h);
@@ -34,15 +36,16 @@ shown_framed read log givens n s old new within shows = record {
 module _ (told : Type 0) (meant means : ℕ → Meaning) (missing : List ℕ) (is_told : told) where
   abbrev Framed : Table → List Entry → Type 0
   Framed read log =
-      (givens : List (List ℕ)) × (flights : List Flight) × FlyBy read [] log givens flights
-      × ((n : ℕ) → Contains (archives_in read ++ arrivals log) n → times n missing ≡ 0 → IsFramed read log givens n (meant n) (means n))
+      (tried : Tries) × (givens : List (List ℕ)) × (flights : List Flight) × FlyBy read [] log givens flights
+      × ((n : ℕ) → Contains (archives_in read ++ arrivals log) n → times n missing ≡ 0 → IsSessionFramed read log tried givens n (meant n) (means n))
 
   of_view : (g : GroupView) → AreWithin meant g → ((n : ℕ) → Contains (had_by g) n → IsInRoom told means missing g.shelves n) → Framed g.first g.log
   of_view g w archives = (
+    g.tried,
     w.givens,
     g.flights,
     w.fly,
-    λ n has back. shown_framed g.first g.log w.givens n g.shelves (meant n) (means n) (w.each n has) (archives n has is_told back),
+    λ n has back. shown_framed g.first g.log g.tried w.givens n g.shelves (meant n) (means n) (w.each n has) (archives n has is_told back),
   )
 
   of_group : (read written : Table) (log : List Entry) → LeavesGroup told meant (IsInRoom told means missing) read log written → Framed read log

@@ -12,7 +12,7 @@ use Rattle.pot_index.specs.declared.entry.IndexEntry.TheVariants.{Publish, Reser
 use Rattle.pot_index.specs.declared.entry.Logged.{Logged}
 use Rattle.pot_index.specs.declared.record.Record.{Record}
 use Rattle.pot_index.specs.Entries.{bringing, plain, is_of}
-use Rattle.pot_index.specs.Index.{Names, IsRecordOf, AreNames, Replays, names_read, after}
+use Rattle.pot_index.specs.Index.{Names, IsRecordOf, AreNames, ReplaysIndex, names_read, after}
 use Rattle.pot_index.specs.Records.{mark_of}
 use Rattle.pot_index.proofs.IndexLemmas.{started_is}
 use Rattle.pot_index.proofs.NameLemmas.{contains_here}
@@ -31,7 +31,7 @@ use Rattle.pot_replies.specs.Stores.{IsStored}
 use Rattle.pot_commands.proofs.Logs.{names_to}
 use Rattle.pot_session.specs.Serving.{setting_of}
 use Rattle.pot_promises.specs.Answers.{IsAnswered, job_at}
-use Rattle.pot_promises.specs.Chains.{IsRechecked, IsSession, Begins, Later, Same, Begun, More, FoundAgain}
+use Rattle.pot_promises.specs.Chains.{IsRechecked, IsSession, BeginsFrom, Later, Same, Begun, More, FoundAgain}
 use Rattle.pot_promises.specs.Promises.{GivesBack, GivesBackLater}
 use Rattle.pot_promises.proofs.FindingAgain.{rack_stays, records_stay}
 use Rattle.pot_promises.proofs.Keeping.{Has, still_has, published_has, found_digest}
@@ -46,7 +46,7 @@ names_after-append n (x ∷ xs) ys = names_after-append (after n x) xs ys
 -- a log leads from some names to others, of which this is the record of the name
 pub record IsMet (rack : Rack) (m : Names) (log : List Logged) (name : List ℕ) (kept : Record) : Type 0 where
   pub now : Names
-  pub to : Replays rack m log now
+  pub to : ReplaysIndex rack m log now
   pub is : IsRecordOf now name kept
 
 module _ (s : Setting) {behind : List Logged} where
@@ -63,12 +63,12 @@ module _ (s : Setting) {behind : List Logged} where
 
   -- the record that was found is that of the name, by the log up to then
   pub transition : (w one : Section) (h : MovesThenRest one) (job : ℕ) (name : List ℕ) (kept : Record) (m n : Names) (cut : IsCut one w) (found : FoundThen behind s job name kept (work_of one h))
-      → names_after (names_read s.read) w.index_before ≡ m → Replays s.rack m w.index_added n → IsMet s.rack m (cut.index_earlier ++ found.sofar) name kept
+      → names_after (names_read s.read) w.index_before ≡ m → ReplaysIndex s.rack m w.index_added n → IsMet s.rack m (cut.index_earlier ++ found.sofar) name kept
   transition w one h job name kept m n cut found at rep =
       let front : List Logged = cut.index_earlier ++ found.sofar in
       let back : List Logged = (plain (Find job name true) ∷ found.later) ++ cut.index_later in
       let parted : w.index_added ≡ front ++ back = found_at w one h job name kept cut found in
-      let parts = went_on s.rack m n front back (subst (λ l. Replays s.rack m l n) parted rep) in
+      let parts = went_on s.rack m n front back (subst (λ l. ReplaysIndex s.rack m l n) parted rep) in
       let log : one.index_before ++ found.sofar ≡ w.index_before ++ front =
       ap (λ l. l ++ found.sofar) cut.index_before ∙ append_assoc w.index_before cut.index_earlier found.sofar in
       let to : names_after (names_read s.read) (one.index_before ++ found.sofar) ≡ parts.0 =
@@ -103,14 +103,14 @@ first_names v fits = (started_is v.rack v.records fits.rack fits.records.read).n
 -- where the log of a session's index leads, as far as its commands were answered and to the end
 pub record Led (seed : List ℕ) (first last : Contents) (ss : List Step) (rs : List Reply) (session : IsSession seed first last ss rs) : Type 0 where
   pub sofar : Names
-  pub to : Replays first.rack (names_of first) session.done.index_added sofar
-  pub on : Replays first.rack sofar session.later.index_added session.records.ended
+  pub to : ReplaysIndex first.rack (names_of first) session.done.index_added sofar
+  pub on : ReplaysIndex first.rack sofar session.later.index_added session.records.ended
   pub begins : names_after (names_of first) session.done.index_before ≡ names_of first
 
 pub led : (seed : List ℕ) (first last : Contents) (ss : List Step) (rs : List Reply) (session : IsSession seed first last ss rs) → Led seed first last ss rs session
 led seed first last ss rs session =
     let parts = went_on first.rack (names_of first) session.records.ended session.done.index_added session.later.index_added
-    (subst (λ l. Replays first.rack (names_of first) l session.records.ended) session.follows.index_is_added session.records.replays) in
+    (subst (λ l. ReplaysIndex first.rack (names_of first) l session.records.ended) session.follows.index_is_added session.records.replays) in
     record {
       sofar = parts.0;
       to = parts.1;
@@ -162,7 +162,7 @@ same_names left next rack records names =
     subst (λ (r : Rack). AreNames r (names_of next)) (sym rack) (subst (λ rs. AreNames left.rack (names_read rs)) (sym records) names)
 
 -- and those of the image with which the next one begins
-pub begins_names : (left first : Contents) → Begins left first → AreNames left.rack (names_of left) → AreNames first.rack (names_of first)
+pub begins_names : (left first : Contents) → BeginsFrom left first → AreNames left.rack (names_of left) → AreNames first.rack (names_of first)
 begins_names left first begins names = same_names left first begins.rack begins.records names
 
 -- or of the one that a recheck left
@@ -177,7 +177,7 @@ left_keeps rack n v name d a has same is = record {
 }
 
 -- and so does the image with which the next one begins
-begins_keeps : (left first : Contents) (name : List ℕ) (d : Digest) → Begins left first → Keeps left name d → Keeps first name d
+begins_keeps : (left first : Contents) (name : List ℕ) (d : Digest) → BeginsFrom left first → Keeps left name d → Keeps first name d
 begins_keeps left first name d begins keeps = record {
   names = begins_names left first begins keeps.names;
   has = subst (λ rs. Has (names_read rs) name d) (sym begins.records) keeps.has;
@@ -203,7 +203,7 @@ later_keeps from left name d keeps (FoundAgain {left = before} sofar again) = re
 
 -- so a file that was stored is kept by the image with which a later session begins
 pub stored_keeps : (seed : List ℕ) (first last : Contents) (ss : List Step) (rs : List Reply) (session : IsSession seed first last ss rs) (p i : ℕ) (name file of : List ℕ) (pieces shards : ℕ)
-    → IsAnswered first.rack ss rs p i (commands.Store name file) (replies.Stored of pieces shards) → (left next : Contents) → Later last left → Begins left next → Keeps next name (digest_of file)
+    → IsAnswered first.rack ss rs p i (commands.Store name file) (replies.Stored of pieces shards) → (left next : Contents) → Later last left → BeginsFrom left next → Keeps next name (digest_of file)
 stored_keeps seed first last ss rs session p i name file of pieces shards stored left next later begins =
     let it = led seed first last ss rs session in
     let a = first_names first session.fits in

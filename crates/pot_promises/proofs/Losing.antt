@@ -16,7 +16,7 @@ use Rattle.pot_machine.specs.Logs.{is_of, job_of, own}
 use Rattle.pot_index.proofs.NamesKept.{replay_keeps, went_on}
 use Rattle.pot_index.specs.declared.record.Record.{Record}
 use Rattle.pot_index.specs.Fits.{FitsRack}
-use Rattle.pot_index.specs.Index.{AreNames, Replays}
+use Rattle.pot_index.specs.Index.{AreNames, ReplaysIndex}
 use Rattle.pot_script.specs.declared.command.Command.{Command}
 use Rattle.pot_script.specs.declared.command.Command.TheVariants as commands
 use Rattle.pot_script.specs.declared.grouping.Step.{Step}
@@ -28,7 +28,7 @@ use Rattle.pot_image.specs.Images.{Contents}
 use Rattle.pot_image.specs.Rules.{FitsTogether}
 use Rattle.pot_replies.specs.Fetches.{Found, IsLost}
 use Rattle.pot_replies.specs.Jobs.{EachIs, is_move_begin, is_move_of}
-use Rattle.pot_replies.specs.Sections.{Section, MovesThenRest, JobEntries, Follows, IsOfJobs, IsOnlyIn, mine, names_after, work_of}
+use Rattle.pot_replies.specs.Sections.{Section, MovesThenRest, JobEntries, FollowsSection, IsOfJobs, IsOnlyIn, mine, names_after, work_of}
 use Rattle.pot_replies.specs.Sessions.{AreSections, Answered, Answers, Rows, jobs_in}
 use Rattle.pot_replies.specs.Settings.{Setting}
 use Rattle.pot_commands.specs.Rows.{Row, IsMigrateReply}
@@ -36,7 +36,7 @@ use Rattle.pot_commands.specs.Steps.{step_of, steps_of}
 use Rattle.pot_commands.proofs.NoMoves.{brings, no_moves, not_among}
 use Rattle.pot_session.specs.Losses.{BeginWith, SwapsNone, is_swap}
 use Rattle.pot_session.specs.Serving.{Leaves, setting_of}
-use Rattle.pot_promises.specs.Answers.{StandsAt, count_replies, job_at}
+use Rattle.pot_promises.specs.Answers.{CommandStandsAt, count_replies, job_at}
 use Rattle.pot_promises.specs.Lost.{Fetches, LostIsFew}
 use Rattle.pot_promises.proofs.Giving.{first_names, transition, names_of}
 use Rattle.pot_promises.proofs.OwnGroups.{all_among, few_can_be_had}
@@ -124,7 +124,7 @@ module _ (s : Setting) where
       (it.0, (it.1.0, subst (λ j. Row s j l (it.1.0 ∷ []) w h) (let e : suc job + i ≡ job + suc i = omega arith in e) it.1.1))
 
   -- what a job of a step logged as its work; a step alone fetches or renews
-  job_swaps : (d : Step) (from i : ℕ) (c : Command) (name : List ℕ) (now : List Reply) (w : Section) (h : MovesThenRest w) → IsWholeStep s.rack d → StandsAt d i c → Fetches name c
+  job_swaps : (d : Step) (from i : ℕ) (c : Command) (name : List ℕ) (now : List Reply) (w : Section) (h : MovesThenRest w) → IsWholeStep s.rack d → CommandStandsAt d i c → Fetches name c
       → Answered (Row s) from (step_of d) now w h → (n : ℕ) → n < jobs_in (step_of d) → (g : ℕ) → Swapless (own (from + n) (h.worked g))
   job_swaps (steps.One x) from i c name now w h whole (none, same) fetches row n lt g =
       subst (λ j. Swapless (own j (h.worked g))) (let e : from ≡ from + n = omega (arith, lt) in e) (by fetches)
@@ -142,7 +142,7 @@ module _ (s : Setting) where
       line_swaps (from + n) line.0 it.1.0 w h it.0 it.1.1 g
 
   -- what a step logged is of its jobs, and swaps no archive
-  step_swaps : (d : Step) (from i : ℕ) (c : Command) (name : List ℕ) (now : List Reply) (w : Section) (h : MovesThenRest w) → IsWholeStep s.rack d → StandsAt d i c → Fetches name c
+  step_swaps : (d : Step) (from i : ℕ) (c : Command) (name : List ℕ) (now : List Reply) (w : Section) (h : MovesThenRest w) → IsWholeStep s.rack d → CommandStandsAt d i c → Fetches name c
       → 0 < from → IsOfJobs from (jobs_in (step_of d)) w → Answered (Row s) from (step_of d) now w h → SwapsNone w
   step_swaps d from i c name now w h whole stands fetches some its row g e has =
       let parts = parted_at (w.added g) e has in
@@ -159,12 +159,12 @@ module _ (s : Setting) where
   -- so it is of the step of a place
   pub swaps_at : (ss : List Step) (job : ℕ) (ones : List Section) (rs : List Reply) (w : Section) (k i : ℕ) (d : Step) (c : Command) (name : List ℕ) (one : Section) → 0 < job
       → AreSections job (steps_of ss) ones w → Answers (Row s) job (steps_of ss) ones rs → AllByRecursion (IsWholeStep s.rack) ss
-      → slice_get ss k ≡ Some d → StandsAt d i c → Fetches name c → slice_get ones k ≡ Some one → SwapsNone one
+      → slice_get ss k ≡ Some d → CommandStandsAt d i c → Fetches name c → slice_get ones k ≡ Some one → SwapsNone one
   swaps_at [] job ones rs w k i d c name one some are answers whole there stands fetches at = absurd (cc there)
   swaps_at (x ∷ ss) job [] rs w k i d c name one some are answers whole there stands fetches at = absurd are
   swaps_at (x ∷ ss) job (o ∷ os) rs w zero i d c name one some (rest, follows, its, more) (h, now, later, is, row, behind) whole there stands fetches at =
       subst (λ z. SwapsNone z) (same_Some o one at)
-      (step_swaps x job i c name now o h whole.0 (subst (λ y. StandsAt y i c) (sym (same_Some x d there)) stands) fetches some its row)
+      (step_swaps x job i c name now o h whole.0 (subst (λ y. CommandStandsAt y i c) (sym (same_Some x d there)) stands) fetches some its row)
   swaps_at (x ∷ ss) job (o ∷ os) rs w (suc k) i d c name one some (rest, follows, its, more) (h, now, later, is, row, behind) whole there stands fetches at =
       swaps_at ss (job + jobs_in (step_of x)) os later rest k i d c name one (omega (arith, some)) more behind whole.1 there stands fetches at
 
@@ -179,7 +179,7 @@ pub worked_swaps : (one : Section) (h : MovesThenRest one) → SwapsNone one →
 worked_swaps one h swaps g e has = swaps g e (subst (λ l. Contains l e) (sym (h.parts g)) (Contains-append_right (h.begun g) (h.worked g) e has))
 
 module _ (seed : List ℕ) (first last : Contents) (room : Transition RoomState) (missing : List ℕ) (story : Section) (fits : FitsTogether first) (leaves : Leaves room missing first last story)
-    (done later : Section) (follows : Follows done later story) where
+    (done later : Section) (follows : FollowsSection done later story) where
   abbrev s : Setting
   s = setting_of seed first
 
@@ -196,7 +196,7 @@ module _ (seed : List ℕ) (first last : Contents) (room : Transition RoomState)
   pub found_fits : (job : ℕ) (name : List ℕ) (kept : Record) (one : Section) (h : MovesThenRest one) → IsCut one done → Found s job name kept (work_of one h) → FitsRack first.rack kept
   found_fits job name kept one h cut was =
       let parts = went_on first.rack (names_of first) leaves.records.ended done.index_added later.index_added
-      (subst (λ l. Replays first.rack (names_of first) l leaves.records.ended) follows.index_is_added leaves.records.replays) in
+      (subst (λ l. ReplaysIndex first.rack (names_of first) l leaves.records.ended) follows.index_is_added leaves.records.replays) in
       let found = transition s done one h job name kept (names_of first) parts.0 cut was
       (ap (names_after (names_of first)) (follows.index_begins ∙ leaves.index_opened)) parts.1 in
       let names : AreNames first.rack found.now = replay_keeps first.rack (names_of first) found.now (cut.index_earlier ++ was.sofar) (first_names first fits) found.to in

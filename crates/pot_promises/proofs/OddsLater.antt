@@ -20,7 +20,7 @@ use Rattle.pot_index.specs.declared.record.Record.{Record}
 use Rattle.pot_index.specs.declared.record.Split.{Split}
 use Rattle.pot_index.specs.Entries.{bringing}
 use Rattle.pot_index.specs.Index.{AreNames}
-use Rattle.pot_index.specs.Laws.{GoesOn}
+use Rattle.pot_index.specs.Laws.{KeepsFileAndSplits}
 use Rattle.pot_index.specs.Records.{current_of, mark_of, splits_of}
 use Rattle.pot_index.proofs.NamesKept.{replay_keeps}
 use Rattle.pot_index.proofs.RecordLaws.{one_record, splits_stay}
@@ -37,7 +37,7 @@ use Rattle.pot_session.specs.Serving.{setting_of}
 use Rattle.pot_shared.specs.Leaving.{still}
 use Rattle.pot_shared.proofs.Lists.{all_at_place}
 use Rattle.pot_promises.specs.Answers.{IsAnswered, job_at}
-use Rattle.pot_promises.specs.Chains.{Begins, Begun, FoundAgain, IsRechecked, IsSession, Later, Leaves, More, Same}
+use Rattle.pot_promises.specs.Chains.{BeginsFrom, Begun, FoundAgain, IsRechecked, IsSession, Later, LeavesImage, More, Same}
 use Rattle.pot_promises.specs.Odds.{NeverOddLater, WasOdd}
 use Rattle.pot_promises.specs.Veils.{stream_blocks}
 use Rattle.pot_promises.proofs.FindingAgain.{columns_stay, digest_stays, records_stay}
@@ -63,7 +63,7 @@ digest_along t (e ∷ log) u s c d is (legal, rest) lt has =
 
 -- RECORDS THAT GO ON
 
-pub goes_further : (r o q : Record) → GoesOn r o → GoesOn o q → GoesOn r q
+pub goes_further : (r o q : Record) → KeepsFileAndSplits r o → KeepsFileAndSplits o q → KeepsFileAndSplits r q
 goes_further r o q a b = record {
   name = b.name ∙ a.name;
   long = b.long ∙ a.long;
@@ -75,7 +75,7 @@ abbrev made : List ℕ → ℕ → Digest → Split → List Split → Record
 made n l d s os = record { name = n; length = l; digest = d; geometry = s.geometry; places = s.places; older = os }
 
 -- one that still has its first split alone is the same
-never_renewed : (r o : Record) → GoesOn r o → r.older ≡ [] → o.older ≡ [] → o ≡ r
+never_renewed : (r o : Record) → KeepsFileAndSplits r o → r.older ≡ [] → o.older ≡ [] → o ≡ r
 never_renewed r o goes one still =
     let splits : current_of o ∷ [] ≡ current_of r ∷ goes.splits.0 =
     ap (λ (l : List Split). l ++ current_of o ∷ []) (sym still) ∙ (goes.splits.1 ∙ ap (λ (l : List Split). (l ++ current_of r ∷ []) ++ goes.splits.0) one) in
@@ -103,12 +103,12 @@ pub record Carries (kept : Record) (placed : List Placed) (v : Contents) : Type 
   pub names : AreNames v.rack (names_of v)
   pub its : Record
   pub has : Contains v.records its
-  pub goes : GoesOn kept its
+  pub goes : KeepsFileAndSplits kept its
   pub slots : (b : ℕ) (x : Placed) → slice_get placed b ≡ Some x → HasSlot v x
 
 module _ (kept : Record) (placed : List Placed) where
   -- the image with which the next session begins
-  pub begins_carries : (left first : Contents) → Begins left first → Carries kept placed left → Carries kept placed first
+  pub begins_carries : (left first : Contents) → BeginsFrom left first → Carries kept placed left → Carries kept placed first
   begins_carries left first begins c = record {
     names = begins_names left first begins c.names;
     its = c.its;
@@ -123,7 +123,7 @@ module _ (kept : Record) (placed : List Placed) where
   }
 
   -- the one that it leaves
-  leaves_carries : (first last : Contents) → Leaves first last → Carries kept placed first → Carries kept placed last
+  leaves_carries : (first last : Contents) → LeavesImage first last → Carries kept placed first → Carries kept placed last
   leaves_carries first last leaves c =
       let ended = leaves.records.ended in
       let log : List Logged = leaves.story.index_added in

@@ -31,8 +31,8 @@ use Rattle.pot_index.specs.declared.record.Split.{Split}
 use Rattle.pot_index.specs.Entries as index
 use Rattle.pot_index.specs.Entries.{bringing, plain}
 use Rattle.pot_index.specs.Fits.{FitsRack}
-use Rattle.pot_index.specs.Index.{AreNames, Names, Replays}
-use Rattle.pot_index.specs.Laws.{GoesOn}
+use Rattle.pot_index.specs.Index.{AreNames, Names, ReplaysIndex}
+use Rattle.pot_index.specs.Laws.{KeepsFileAndSplits}
 use Rattle.pot_index.specs.Records.{current_of, mark_of}
 use Rattle.pot_index.proofs.NameLemmas.{contains_here}
 use Rattle.pot_index.proofs.NamesKept.{leads_once, replay_keeps, went_on}
@@ -55,7 +55,7 @@ use Rattle.pot_store.specs.Drawing.{random_from}
 use Rattle.pot_store.proofs.FitLemmas.{current_fits}
 use Rattle.pot_session.specs.Serving.{setting_of}
 use Rattle.pot_promises.specs.Answers.{job_at}
-use Rattle.pot_promises.specs.Chains.{Begins, IsSession, Later}
+use Rattle.pot_promises.specs.Chains.{BeginsFrom, IsSession, Later}
 use Rattle.pot_promises.specs.Fetched.{Before, Here, WasStored}
 use Rattle.pot_promises.specs.Odds.{WasOdd}
 use Rattle.pot_promises.specs.Renewed.{NeverOddRenewed, NeverOddRenewedLater, NeverOddTogether, RenewedShows, WasRenewed}
@@ -83,7 +83,7 @@ abbrev made : List ℕ → ℕ → Digest → Split → List Split → Record
 made n l d s os = record { name = n; length = l; digest = d; geometry = s.geometry; places = s.places; older = os }
 
 -- two with as many splits that go on to one are the same
-same_record : (r q o : Record) → GoesOn r o → GoesOn q o → length q.older ≡ length r.older → q ≡ r
+same_record : (r q o : Record) → KeepsFileAndSplits r o → KeepsFileAndSplits q o → length q.older ≡ length r.older → q ≡ r
 same_record r q o a b long =
     let parts = same_front q.older r.older (current_of q) (current_of r) b.splits.0 a.splits.0 long (sym b.splits.1 ∙ a.splits.1) in
     same (sym b.name ∙ a.name) (sym b.long ∙ a.long) (sym b.digest ∙ a.digest) parts.1 parts.0
@@ -96,7 +96,7 @@ same_record r q o a b long =
         ∙ (ap (λ x. made r.name r.length r.digest x q.older) s ∙ ap (λ x. made r.name r.length r.digest (current_of r) x) os)))
 
 -- a record goes on to itself
-goes_same : (r : Record) → GoesOn r r
+goes_same : (r : Record) → KeepsFileAndSplits r r
 goes_same r = record { name = refl; long = refl; digest = refl; splits = ([], sym (append-nil (r.older ++ current_of r ∷ []))) }
 
 -- a split of a file by the first bytes of a stream
@@ -142,7 +142,7 @@ module _ (seed : List ℕ) (first last : Contents) (ss : List Step) (rs : List R
 
   -- a record that was found stays to the end, or goes on
   found_ends : {behind : List Logged} (one : Section) (cut : IsCut one session.done) (halves : MovesThenRest one) (job : ℕ) (name : List ℕ) (kept : Record) (found : FoundThen behind s job name kept (work_of one halves))
-      → (o : Record) × Contains ended.published o × GoesOn kept o × (kept.name ≡ name)
+      → (o : Record) × Contains ended.published o × KeepsFileAndSplits kept o × (kept.name ≡ name)
   found_ends one cut halves job name kept found =
       let it = led seed first last ss rs session in
       let met = transition s session.done one halves job name kept (names_of first) it.sofar cut found it.begins it.to in
@@ -152,9 +152,9 @@ module _ (seed : List ℕ) (first last : Contents) (ss : List Step) (rs : List R
       let whole : log ≡ front ++ rest =
       session.follows.index_is_added
       ∙ (ap (λ l. l ++ session.later.index_added) (found_at s session.done one halves job name kept cut found) ∙ append_assoc front back session.later.index_added) in
-      let parts = went_on first.rack (names_of first) ended front rest (subst (λ l. Replays first.rack (names_of first) l ended) whole session.records.replays) in
+      let parts = went_on first.rack (names_of first) ended front rest (subst (λ l. ReplaysIndex first.rack (names_of first) l ended) whole session.records.replays) in
       let same : met.now ≡ parts.0 = leads_once first.rack (names_of first) met.now parts.0 front met.to parts.1 in
-      let on : Replays first.rack met.now rest ended = subst (λ m. Replays first.rack m rest ended) (sym same) parts.2 in
+      let on : ReplaysIndex first.rack met.now rest ended = subst (λ m. ReplaysIndex first.rack m rest ended) (sym same) parts.2 in
       let o = splits_stay first.rack met.now ended rest kept (replay_keeps first.rack (names_of first) met.now front begun_names met.to) on met.is.0 in
       (o.0, o.1, o.2, met.is.1)
 
@@ -187,7 +187,7 @@ pub record IsMade (seed : List ℕ) (first last : Contents) (ss : List Step) (rs
   pub fits : FitsRack first.rack kept
   pub its : Record
   pub has : Contains session.records.ended.published its
-  pub goes : GoesOn kept its
+  pub goes : KeepsFileAndSplits kept its
   pub put : (x : Placed) → Contains placed x → (job : ℕ) × (e : Entry) × IsKeptPut job x.stripe x.column x.digest e × Contains (session.story.added x.group) e
   pub places : kept.places ≡ map place_of placed
   pub digests : map (λ (y : Placed). y.digest) placed ≡ map digest_of (file_blocks kept.geometry file random)
@@ -276,11 +276,11 @@ module _ (seed : List ℕ) (first last : Contents) (ss : List Step) (rs : List R
         let cut = cut_at ss 1 session.replied.ones session.done q was.one session.replied.are was.its in
         let e = found_ends seed first last ss rs session was.one cut was.halves (job_at ss q j) name was.odd.kept was.odd.found in
         let is : e.0 ≡ it.its = one_ends seed first last ss rs session e.0 it.its e.1 it.has (e.2.name ∙ (e.3 ∙ sym (it.goes.name ∙ named))) in
-        let same : was.odd.kept ≡ kept = same_record kept was.odd.kept it.its it.goes (subst (GoesOn was.odd.kept) is e.2) long in
+        let same : was.odd.kept ≡ kept = same_record kept was.odd.kept it.its it.goes (subst (KeepsFileAndSplits was.odd.kept) is e.2) long in
         made_not_odd (setting_of seed first) (work_of was.one was.halves) (job_at ss q j) name read wanted got was.odd same (made_seen was.one was.halves cut (job_at ss q j)) alike
 
     -- nor of a later one
-    pub made_later : (left : Contents) → Later last left → (seed2 : List ℕ) (first2 last2 : Contents) (ss2 : List Step) (rs2 : List Reply) → Begins left first2 → (session2 : IsSession seed2 first2 last2 ss2 rs2)
+    pub made_later : (left : Contents) → Later last left → (seed2 : List ℕ) (first2 last2 : Contents) (ss2 : List Step) (rs2 : List Reply) → BeginsFrom left first2 → (session2 : IsSession seed2 first2 last2 ss2 rs2)
         → (q j : ℕ) (was : WasOdd read seed2 first2 ss2 session2.replied.ones q j name wanted got) → length was.odd.kept.older ≡ length kept.older → ⊥
     made_later left later seed2 first2 last2 ss2 rs2 begins session2 q j was long =
         let c = begins_carries kept placed left first2 begins (later_carries kept placed last left made_carries later) in
@@ -293,7 +293,7 @@ module _ (seed : List ℕ) (first last : Contents) (ss : List Step) (rs : List R
         let goes = goes_further kept c.its o.0 c.goes o.2 in
         let is : o.0 ≡ was.odd.kept =
         one_record found.now.published o.0 was.odd.kept (replay_keeps first2.rack (names_of first2) found.now front c.names found.to).ascends o.1 found.is.0 (goes.name ∙ (named ∙ sym found.is.1)) in
-        let same : was.odd.kept ≡ kept = same_record kept was.odd.kept was.odd.kept (subst (GoesOn kept) is goes) (goes_same was.odd.kept) long in
+        let same : was.odd.kept ≡ kept = same_record kept was.odd.kept was.odd.kept (subst (KeepsFileAndSplits kept) is goes) (goes_same was.odd.kept) long in
         made_not_odd s2 (work_of was.one was.halves) (job_at ss2 q j) name read wanted got was.odd same
         (λ b x d at seen.
         let slot = c.slots b x at in
@@ -375,7 +375,7 @@ module _ (seed : List ℕ) (first last : Contents) (ss : List Step) (rs : List R
       (((Contains-filter (index.is_of job) it.one.index_added entry).0
       (subst (λ l. Contains l entry) (sym it.renewed.all.fetched.found.index) (contains_later (plain (Find job name true)) entry (entry ∷ []) (contains_here entry [])))).0)
 
-  renewed_ends : (o : Record) × Contains session.records.ended.published o × GoesOn now o × FitsRack first.rack now
+  renewed_ends : (o : Record) × Contains session.records.ended.published o × KeepsFileAndSplits now o × FitsRack first.rack now
   renewed_ends = renewed_goes first.rack (names_of first) session.records.ended session.story.index_added job name (mark_of now) now (first_names first session.fits) session.records.replays logged
 
   -- its blocks were put

@@ -40,7 +40,7 @@ use Rattle.pot_shared.specs.Groups.{had_by}
 use Rattle.pot_session.specs.Serving.{IsInRoom, setting_of}
 use Rattle.pot_shared.specs.Hands.{times}
 use Rattle.pot_shared.specs.Leaving.{LeavesGroup, LeaveGroups}
-use Rattle.pot_session.specs.Losses.{BeginWith, FewCanBeHad, IsInVain, IsLeft, SwapsNone, all_had, is_swap}
+use Rattle.pot_session.specs.Losses.{BeginWith, FewCanBeHad, IsInVain, IsPlaceLeft, SwapsNone, all_had, is_swap}
 use Rattle.pot_shared.proofs.Lists.{all_at_place, at_same, flat_contains}
 use Rattle.pot_session.proofs.LiveLemmas.{broken_past, data_columns-replayed, live_through, missed_behind, stuck_past}
 use Rattle.pot_session.proofs.StripeLemmas.{column_had}
@@ -232,7 +232,7 @@ module _ (told : Type 0) (seed : List ℕ) (first last : Contents) (meant means 
           (Contains-append_left (sofar ++ again.behind) (gone ∷ again.z) e (Contains-append_right sofar again.behind e has))))
           (subst (λ f. IsTrue (is_live (slot_at (replayed f (w.before p.group ++ sofar)) p.stripe p.column))) same again.live)
 
-      its_last : (is : Entry → Type 0) → ((e : Entry) → is e → SaysLeft p.group t log own_group is_table is_log job p e) → LastIs (own job (w.added p.group)) is → IsLeft (setting_of seed first) job w p
+      its_last : (is : Entry → Type 0) → ((e : Entry) → is e → SaysLeft p.group t log own_group is_table is_log job p e) → LastIs (own job (w.added p.group)) is → IsPlaceLeft (setting_of seed first) job w p
       its_last is says (sofar, e, at, holds) =
           let cut = cut_last (is_of job) (w.added p.group) sofar e at in
           let more = begin p.group log is_log in
@@ -248,13 +248,13 @@ module _ (told : Type 0) (seed : List ℕ) (first last : Contents) (meant means 
             ap (λ f. is_live (slot_at (replayed f (w.before p.group ++ cut.0)) p.stripe p.column)) same ∙ it.1,
           )
 
-      is_left : IsHopeless (setting_of seed first) job w p → IsLeft (setting_of seed first) job w p
+      is_left : IsHopeless (setting_of seed first) job w p → IsPlaceLeft (setting_of seed first) job w p
       is_left (inl stuck) = its_last (λ e. (o : ℕ) × (e ≡ entry.Stuck job p.stripe p.column o)) (λ e h. inl h) stuck
       is_left (inr (inl oddly)) = its_last (λ e. (f : Digest) × (e ≡ entry.Oddly job p.stripe p.column f)) (λ e h. inr h) oddly
       is_left (inr (inr again)) = absurd (not_again again)
 
     point_left : (x : ℕ) → x < kept.geometry.shards → IsHopeless (setting_of seed first) job w (place_at kept.geometry kept.places piece fragment x)
-        → IsLeft (setting_of seed first) job w (place_at kept.geometry kept.places piece fragment x)
+        → IsPlaceLeft (setting_of seed first) job w (place_at kept.geometry kept.places piece fragment x)
     point_left x lt hopeless =
         let p : Place = place_at kept.geometry kept.places piece fragment x in
         let b : ℕ = (piece * kept.geometry.fragments + fragment) * kept.geometry.shards + x in

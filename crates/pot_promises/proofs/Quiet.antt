@@ -23,7 +23,7 @@ use Rattle.pot_replies.specs.Sessions.{AreSections, Answered, Answers, Rows, job
 use Rattle.pot_replies.specs.Settings.{Setting}
 use Rattle.pot_commands.specs.Rows.{Row, IsStoreReply, IsFetchReply, IsRenewReply, IsListReply, IsScrubReply, IsRepairReply, IsReplaceReply, IsMigrateReply}
 use Rattle.pot_commands.specs.Steps.{step_of, steps_of}
-use Rattle.pot_promises.specs.Answers.{StandsAt}
+use Rattle.pot_promises.specs.Answers.{CommandStandsAt}
 use Rattle.pot_promises.specs.Odds.{NoneRenewed}
 use Rattle.pot_promises.proofs.Walking.{is_answered_here, is_answered_behind}
 
@@ -187,7 +187,7 @@ module _ (name : List ℕ) where
 
     -- the jobs of a step that did not renew the name log no such entry
     jobs_quiet : (d : Step) (job : ℕ) (now : List Reply) (w : Section) (h : MovesThenRest w) → Answered (Row s) job (step_of d) now w h
-        → NoneOf (StandsAt d) now → (j : ℕ) → IsAmong job (jobs_in (step_of d)) j → Quiet (own j w.index_added)
+        → NoneOf (CommandStandsAt d) now → (j : ℕ) → IsAmong job (jobs_in (step_of d)) j → Quiet (own j w.index_added)
     jobs_quiet (steps.One c) job now w h row none j among =
         let low = among.0 in
         let high = among.1 in
@@ -196,7 +196,7 @@ module _ (name : List ℕ) where
     jobs_quiet (steps.Together lines) job now w h rows none j among = rows_quiet lines job now w h rows none j among
 
     step_quiet : (d : Step) (job : ℕ) (now : List Reply) (w : Section) (h : MovesThenRest w) → Answered (Row s) job (step_of d) now w h → IsOfJobs job (jobs_in (step_of d)) w
-        → NoneOf (StandsAt d) now → Quiet w.index_added
+        → NoneOf (CommandStandsAt d) now → Quiet w.index_added
     step_quiet d job now w h row of none x has is =
         let parts = parted_at w.index_added x has in
         let j : ℕ = job_in x.entry in

@@ -35,7 +35,8 @@ runs_go_on last held read has is =
       records = ap (λ (v : Contents). v.records) it;
     }
 
--- what a recheck leaves: what there was, the image in which all slots are Live that are not Void, or none where the desk failed
+-- what a recheck leaves: what there was, the image in which all slots are Live that are not Void,
+-- or none where the desk failed
 abbrev LeftNew : Transition (Option (List ℕ)) → Rechecked → Image → Type 0
 LeftNew desk answer i = (desk.after ≡ Some (live_bytes i)) ⊎ ((answer ≡ rechecked.DeskFault) × (desk.after ≡ None))
 

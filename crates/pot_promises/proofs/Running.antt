@@ -4,6 +4,7 @@ use Rattle.std.specs.Prelude.{IfErr, IsTrue, None}
 use Rattle.std.proofs.lemmas.Grind.{flat_map-append}
 use Rattle.std.proofs.lemmas.List.{take-append-drop}
 use Rattle.pot_outside.specs.Accounts.{Transition, held_in, since}
+use Rattle.pot_outside.specs.Desks.{Images, image_met}
 use Rattle.pot_outside.specs.Failing.{MayLeave}
 use Rattle.pot_outside.specs.Rooms.{RoomState}
 use Rattle.pot_script.specs.Replies.{reply_text}
@@ -16,7 +17,7 @@ use Rattle.pot_image.specs.Rules.{FitsTogether, IsImage}
 use Rattle.pot_recheck.specs.declared.rechecking.Rechecked.{Rechecked}
 use Rattle.pot_recheck.specs.declared.rechecking.Rechecked.TheVariants as rechecked
 use Rattle.pot_recheck.specs.Rechecking.{Rechecks}
-use Rattle.pot_replies.specs.Sections.{Section, Follows}
+use Rattle.pot_replies.specs.Sections.{Section, FollowsSection}
 use Rattle.pot_replies.specs.Sessions.{Replied}
 use Rattle.pot_replies.specs.Sessions as Sessions
 use Rattle.pot_replies.specs.Settings.{Setting}
@@ -32,18 +33,18 @@ use Rattle.pot_session.specs.declared.ending.status.Status.TheVariants as status
 use Rattle.pot_session.specs.declared.ending.stop.Stop.TheVariants as stop
 use Rattle.pot_bytes.specs.declared.rack.Rack.{Rack}
 use Rattle.pot_options.specs.Options.{Text}
-use Rattle.pot_session.specs.Calls.{Runs, Nothing, Short, Session, Drilling, Recovering, Auditing, Generating}
+use Rattle.pot_session.specs.Calls.{RunsProgram, Nothing, Short, Session, Drilling, Recovering, Auditing, Generating}
 use Rattle.pot_session.specs.Calls as calls
-use Rattle.pot_session.specs.Desks.{HoldsImage, IfWritten, IsKeepStop, Keeps, begun}
-use Rattle.pot_session.specs.Making.{Makes, empty_contents}
+use Rattle.pot_session.specs.Desks.{HoldsImage, IfWritten, IsKeepStop, DeskKeeps, begun}
+use Rattle.pot_session.specs.Making.{MakesDesk, empty_contents}
 use Rattle.pot_session.specs.Tasks.{seed_of}
-use Rattle.pot_session.specs.Runs.{Holds, Stopped, Served, AtDesk, AtScript, AtOpening, IsOf, Seen, Stops}
+use Rattle.pot_session.specs.Runs.{Holds, Stopped, Served, AtDesk, AtScript, AtOpening, IsSessionOf, Seen, Stops}
 use Rattle.pot_session.specs.Serving.{Serves, Unlent, Unopened, Closed, IsClosed, Leaves, close_answer, setting_of, status_by}
 use Rattle.pot_session.specs.Stops.{Refuses, status_of}
 use Rattle.std.proofs.lemmas.Option.{slice_get_within}
 use Rattle.pot_bytes.proofs.Elements.{element_at}
 use Rattle.pot_machine.specs.Machine.{Replays}
-use Rattle.pot_promises.specs.Chains.{AllLead, Begins, Begun, IsSession, Later, More, Same}
+use Rattle.pot_promises.specs.Chains.{AllLead, BeginsFrom, Begun, IsSession, Later, More, Same}
 use Rattle.pot_image.specs.Spelling.{image_bytes}
 use Rattle.pot_promises.specs.Runs.{Bare, CarefulKeeps, ClosedAs, DesksStayGood, HasImage, HasLater, IsDone, IsKeptAs, Next, NoneClosed, RanAs, Recheck, RunsAreSessions, RunsGoLater, RunsMayClose}
 use Rattle.pot_promises.proofs.Rechecking.{none_stays, rechecks_go_on, runs_go_on}
@@ -79,7 +80,7 @@ none_behind w = record {
   index_added = [];
 }
 
-pub whole_follows : (w : Section) → Follows w (none_behind w) w
+pub whole_follows : (w : Section) → FollowsSection w (none_behind w) w
 whole_follows w = record {
   begins = λ g. refl;
   is_added = λ g. sym (append-nil (w.added g));
@@ -107,7 +108,7 @@ all_lead room missing first last w leaves g t at =
 
 module _ (seed : List ℕ) (room : Transition RoomState) (missing : List ℕ) (first last : Contents) (w : Section) (fits : FitsTogether first) (leaves : Leaves room missing first last w) where
   -- these steps have their replies when the logs had gained so much
-  session_of : (ss : List Step) (rs : List Reply) (done later : Section) → Follows done later w → Replied (Row (setting_of seed first)) 1 (steps_of ss) rs done → IsSession seed first last ss rs
+  session_of : (ss : List Step) (rs : List Reply) (done later : Section) → FollowsSection done later w → Replied (Row (setting_of seed first)) 1 (steps_of ss) rs done → IsSession seed first last ss rs
   session_of ss rs done later follows replied = record {
     fits = fits;
     story = w;
@@ -158,7 +159,7 @@ failed_by desk v is (inr (inl new)) = inr (inl (new, is))
 failed_by desk v is (inr (inr none)) = inr (inr none)
 
 -- where it did not take an image
-refused_by : (desk : Transition (Option (List ℕ))) (v : Contents) (s : Stop) → IsKeepStop s → IfWritten (Err s) (IsImage v) → Keeps desk (image_bytes v) (Err s) → MayHave desk v
+refused_by : (desk : Transition (Option (List ℕ))) (v : Contents) (s : Stop) → IsKeepStop s → IfWritten (Err s) (IsImage v) → DeskKeeps desk (image_bytes v) (Err s) → MayHave desk v
 refused_by desk v stop.DeskFault which image is = failed_by desk v image is
 refused_by desk v stop.NoMemory which image is = inl is
 refused_by desk v stop.Words which image is = absurd which
@@ -174,7 +175,7 @@ refused_by desk v stop.RoomFault which image is = absurd which
 refused_by desk v stop.TooWide which image is = absurd which
 
 -- and by how it took the image of a close
-left_by : (desk : Transition (Option (List ℕ))) (v : Contents) (r : Result (Unit {0}) Stop) → IfErr r IsKeepStop → IfWritten r (IsImage v) → Keeps desk (image_bytes v) r → MayHave desk v
+left_by : (desk : Transition (Option (List ℕ))) (v : Contents) (r : Result (Unit {0}) Stop) → IfErr r IsKeepStop → IfWritten r (IsImage v) → DeskKeeps desk (image_bytes v) r → MayHave desk v
 left_by desk v (Ok u) which image is = inr (inl (is, image))
 left_by desk v (Err s) which image is = refused_by desk v s which image is
 
@@ -188,10 +189,10 @@ had_begun desk first last is before (inr new) = inr new
 
 module _ (seed : List ℕ) (careful : Bool) (seen : Seen) (answer : Status) (told : IsTrue seen.desk.tells) where
   abbrev Ended : Type 0
-  Ended = ClosedAs seed seen ⊎ NoneClosed (held_in seen.desk)
+  Ended = ClosedAs seed seen ⊎ NoneClosed (image_met seen.desk)
 
   -- a session began with the image that was read, and ended so
-  module _ (i : Image) (steps : List Step) (of : IsOf seen.source (held_in seen.desk) i steps) (rules : IsImage (begun (contents i))) where
+  module _ (i : Image) (steps : List Step) (of : IsSessionOf seen.source (image_met seen.desk) i steps) (rules : IsImage (begun (contents i))) where
     abbrev first : Contents
     first = begun (contents i)
 
@@ -209,7 +210,7 @@ module _ (seed : List ℕ) (careful : Bool) (seen : Seen) (answer : Status) (tol
       well c = by careful c.ending c.ends c.missing c.kept c.leaves c.keeps.holds c.image c.status
         where
           done_well : (refused : Bool) → EndsOver (setting_of seed first) c.story seen.sink steps (ending.Done refused) → Leaves seen.room [] first c.last c.story
-              → Keeps (since (held_in seen.desk) (Some (image_bytes first))) (image_bytes c.last) (Ok tt) → IsImage c.last → RanAs seed seen
+              → DeskKeeps (since (image_met seen.desk) (Some (image_bytes first))) (image_bytes c.last) (Ok tt) → IsImage c.last → RanAs seed seen
           done_well refused ends leaves kept image = record {
             read = i;
             was_held = of.image told;
@@ -224,7 +225,7 @@ module _ (seed : List ℕ) (careful : Bool) (seen : Seen) (answer : Status) (tol
 
           by : (careful : Bool) (e : Ending) → EndsOver (setting_of seed first) c.story seen.sink steps e → (missing : List ℕ) (r : Result (Unit {0}) Stop)
               → Leaves seen.room missing first c.last c.story
-              → (IsTrue seen.desk.tells → Keeps (since (held_in seen.desk) (Some (image_bytes first))) (image_bytes c.last) r) → IfWritten r (IsImage c.last)
+              → (IsTrue seen.desk.tells → DeskKeeps (since (image_met seen.desk) (Some (image_bytes first))) (image_bytes c.last) r) → IfWritten r (IsImage c.last)
               → answer ≡ status_by careful e r (close_answer missing r) → RanAs seed seen
           by true e ends missing (Err s) leaves kept image is = absurd (not_done s (subst IsDone is done))
           by true (ending.Done refused) ends [] (Ok u) leaves kept image is = done_well refused ends leaves (kept told) image
@@ -268,8 +269,8 @@ module _ (seed : List ℕ) (careful : Bool) (seen : Seen) (answer : Status) (tol
             replies = rs;
             session = session;
             written = written;
-            left = had_begun (since (held_in seen.desk) (Some (image_bytes first))) first c.last rules refl
-                (left_by (since (held_in seen.desk) (Some (image_bytes first))) c.last c.kept c.keeps.which c.image (c.keeps.holds told));
+            left = had_begun (since (image_met seen.desk) (Some (image_bytes first))) first c.last rules refl
+                (left_by (since (image_met seen.desk) (Some (image_bytes first))) c.last c.kept c.keeps.which c.image (c.keeps.holds told));
           },
           refl,
         )
@@ -297,8 +298,8 @@ module _ (seed : List ℕ) (careful : Bool) (seen : Seen) (answer : Status) (tol
 
     -- a session that kept its image, by what it answered
     left_kept : (e : Ending) (closed r : Result (Unit {0}) Stop) (last : Contents) → answer ≡ status_by true e r closed → IfErr r IsKeepStop
-        → Keeps (since (held_in seen.desk) (Some (image_bytes first))) (image_bytes last) r → IfWritten r (IsImage last)
-        → (answer ≡ status.SinkFault) ⊎ (answer ≡ status.RoomFault) → HasImage seen.desk.after.held last
+        → DeskKeeps (since (image_met seen.desk) (Some (image_bytes first))) (image_bytes last) r → IfWritten r (IsImage last)
+        → (answer ≡ status.SinkFault) ⊎ (answer ≡ status.RoomFault) → HasImage seen.desk.after.held.now last
     left_kept e closed (Ok u) last is which kept image why = (kept, image)
     left_kept e closed (Err stop.DeskFault) last is which kept image (inl sink) = absurd (cc (is, sink))
     left_kept e closed (Err stop.DeskFault) last is which kept image (inr room) = absurd (cc (is, room))
@@ -307,8 +308,8 @@ module _ (seed : List ℕ) (careful : Bool) (seen : Seen) (answer : Status) (tol
     left_kept e closed (Err _) last is which kept image why = absurd which
 
     served : Ends → Ended
-    served (Unlent is sink kept room others) = inr (inr (inr (i, of.image told, (kept told, rules))))
-    served (Unopened is sink kept others) = inr (inr (inr (i, of.image told, (kept told, rules))))
+    served (Unlent is sink kept room others) = inr (inr (inr (i, of.image told, ((kept told).0, rules))))
+    served (Unopened is sink kept others) = inr (inr (inr (i, of.image told, ((kept told).0, rules))))
     served (Closed c) = inl (shut c)
 
   held_well : IsDone answer → Holds seed careful seen answer → RanAs seed seen
@@ -316,16 +317,16 @@ module _ (seed : List ℕ) (careful : Bool) (seen : Seen) (answer : Status) (tol
   held_well done (Served i steps of rules whole serves ends untouched) = served_well i steps of rules done serves
 
   -- the desk did not take the image with which a session would begin
-  unopened : (i : Image) → HoldsImage seen.desk.before.held i → MayHave (held_in seen.desk) (begun (contents i)) → NoneClosed (held_in seen.desk)
+  unopened : (i : Image) → HoldsImage seen.desk.before.held.now i → MayHave (image_met seen.desk) (begun (contents i)) → NoneClosed (image_met seen.desk)
   unopened i was_held (inl same) = inl same
   unopened i was_held (inr (inl new)) = inr (inr (i, was_held, new))
   unopened i was_held (inr (inr none)) = inr (inl none)
 
   -- no session began
-  stopped : (s : Stop) → Stops seen.source (held_in seen.desk) s → NoneClosed (held_in seen.desk)
-  stopped s (AtDesk d refused same) = inl (same told)
-  stopped s (AtScript i goes holds_that refused same) = inl (same told)
-  stopped s (AtOpening i steps of which image keeps) = unopened i (of.image told) (refused_by (held_in seen.desk) (begun (contents i)) s which image (keeps told))
+  stopped : (s : Stop) → Stops seen.source (held_in seen.desk) s → NoneClosed (image_met seen.desk)
+  stopped s (AtDesk d refused same) = inl (ap (λ (h : Images). h.now) (same told))
+  stopped s (AtScript i goes holds_that refused same) = inl (ap (λ (h : Images). h.now) (same told))
+  stopped s (AtOpening i steps of which image keeps came) = unopened i (of.image told) (refused_by (image_met seen.desk) (begun (contents i)) s which image (keeps told))
 
   held_shut : Holds seed careful seen answer → Ended
   held_shut (Stopped s stops refuses room) = inr (stopped s stops)
@@ -333,21 +334,21 @@ module _ (seed : List ℕ) (careful : Bool) (seen : Seen) (answer : Status) (tol
 
 -- LATER
 
-module _ (seed : List ℕ) (seen : Seen) (from left : Contents) (sofar : Later from left) (has : HasImage seen.desk.before.held left) where
+module _ (seed : List ℕ) (seen : Seen) (from left : Contents) (sofar : Later from left) (has : HasImage seen.desk.before.held.now left) where
   abbrev Extends : Type 0
-  Extends = HasLater from seen.desk.after.held ⊎ (seen.desk.after.held ≡ None)
+  Extends = HasLater from seen.desk.after.held.now ⊎ (seen.desk.after.held.now ≡ None)
 
   -- the session that follows the one that left it
-  begins : (i : Image) → HoldsImage seen.desk.before.held i → Begins left (begun (contents i))
-  begins i was_held = runs_go_on left seen.desk.before.held i has was_held
+  begins : (i : Image) → HoldsImage seen.desk.before.held.now i → BeginsFrom left (begun (contents i))
+  begins i was_held = runs_go_on left seen.desk.before.held.now i has was_held
 
-  closed_by : (c : ClosedAs seed seen) → HasImage seen.desk.after.held (begun (contents c.read)) ⊎ (HasImage seen.desk.after.held c.last ⊎ (seen.desk.after.held ≡ None)) → Extends
+  closed_by : (c : ClosedAs seed seen) → HasImage seen.desk.after.held.now (begun (contents c.read)) ⊎ (HasImage seen.desk.after.held.now c.last ⊎ (seen.desk.after.held.now ≡ None)) → Extends
   closed_by c (inl is) = inl (begun (contents c.read), is, Begun sofar (begins c.read c.was_held))
   closed_by c (inr (inl is)) =
       inl (c.last, is, More sofar (begins c.read c.was_held) (record { fits = c.session.fits; story = c.session.story; rack = c.session.rack; records = c.session.records; groups = c.session.groups }))
   closed_by c (inr (inr none)) = inr none
 
-  later_by : ClosedAs seed seen ⊎ NoneClosed (held_in seen.desk) → Extends
+  later_by : ClosedAs seed seen ⊎ NoneClosed (image_met seen.desk) → Extends
   later_by (inl c) = closed_by c c.left
   later_by (inr (inl same)) = inl (left, (same ∙ has.0, has.1), sofar)
   later_by (inr (inr (inl none))) = inr none
@@ -362,19 +363,19 @@ runs_may_close seed careful seen answer it told = held_shut seed careful seen an
 -- A CAREFUL RUN
 
 module _ (seed : List ℕ) (seen : Seen) (answer : Status) (why : (answer ≡ status.SinkFault) ⊎ (answer ≡ status.RoomFault)) (told : IsTrue seen.desk.tells) where
-  kept_close : (i : Image) (steps : List Step) (of : IsOf seen.source (held_in seen.desk) i steps) (rules : IsImage (begun (contents i)))
-      → Serves seed true (begun (contents i)) steps seen.room seen.sink seen.desk answer → IsKeptAs seed seen ⊎ NoneClosed (held_in seen.desk)
-  kept_close i steps of rules (Unlent is sink kept room others) = inr (inr (inr (i, of.image told, (kept told, rules))))
-  kept_close i steps of rules (Unopened is sink kept others) = inr (inr (inr (i, of.image told, (kept told, rules))))
+  kept_close : (i : Image) (steps : List Step) (of : IsSessionOf seen.source (image_met seen.desk) i steps) (rules : IsImage (begun (contents i)))
+      → Serves seed true (begun (contents i)) steps seen.room seen.sink seen.desk answer → IsKeptAs seed seen ⊎ NoneClosed (image_met seen.desk)
+  kept_close i steps of rules (Unlent is sink kept room others) = inr (inr (inr (i, of.image told, ((kept told).0, rules))))
+  kept_close i steps of rules (Unopened is sink kept others) = inr (inr (inr (i, of.image told, ((kept told).0, rules))))
   kept_close i steps of rules (Closed c) =
       let d = shut_at seed true seen answer told i steps of rules c in
       inl (
         d.0,
-        subst (HasImage seen.desk.after.held) (sym d.1)
+        subst (HasImage seen.desk.after.held.now) (sym d.1)
             (left_kept seed true seen answer told i steps of rules c.ending (close_answer c.missing c.kept) c.kept c.last c.status c.keeps.which (c.keeps.holds told) c.image why),
       )
 
-  kept_held : Holds seed true seen answer → IsKeptAs seed seen ⊎ NoneClosed (held_in seen.desk)
+  kept_held : Holds seed true seen answer → IsKeptAs seed seen ⊎ NoneClosed (image_met seen.desk)
   kept_held (Stopped s stops refuses room) = inr (stopped seed true seen answer told s stops)
   kept_held (Served i steps of rules whole serves ends untouched) = kept_close i steps of rules serves
 
@@ -395,7 +396,7 @@ still_good : (desk : Transition (Option (List ℕ))) → desk.after ≡ desk.bef
 still_good desk same good = subst IsGood (sym same) good
 
 -- a new archive
-made_good : (rack : Rack) (desk : Transition (Option (List ℕ))) (made : Result (Unit {0}) Stop) → IsImage (empty_contents rack) → Makes rack desk made → IsGood desk.before → IsGood desk.after
+made_good : (rack : Rack) (desk : Transition (Option (List ℕ))) (made : Result (Unit {0}) Stop) → IsImage (empty_contents rack) → MakesDesk rack desk made → IsGood desk.before → IsGood desk.after
 made_good rack desk (Ok u) is makes good = inr (rack, (empty_contents rack, (makes.1, is), Same))
 made_good rack desk (Err stop.Exists) is makes good = still_good desk makes.1 good
 made_good rack desk (Err stop.NoMemory) is makes good = still_good desk makes good
@@ -417,33 +418,33 @@ made_good rack desk (Err stop.RoomFault) is makes good = absurd makes
 made_good rack desk (Err stop.TooWide) is makes good = absurd makes
 
 -- no session begins on a desk that has no image
-none_held : (seed : List ℕ) (seen : Seen) → seen.desk.before.held ≡ None → ClosedAs seed seen ⊎ NoneClosed (held_in seen.desk) → seen.desk.after.held ≡ None
+none_held : (seed : List ℕ) (seen : Seen) → seen.desk.before.held.now ≡ None → ClosedAs seed seen ⊎ NoneClosed (image_met seen.desk) → seen.desk.after.held.now ≡ None
 none_held seed seen none (inl c) = absurd (unheld c.read c.was_held)
   where
-    unheld : (i : Image) → HoldsImage seen.desk.before.held i → ⊥
+    unheld : (i : Image) → HoldsImage seen.desk.before.held.now i → ⊥
     unheld i (bytes, is, answers) = absurd (cc (none, is))
 none_held seed seen none (inr (inl same)) = same ∙ none
 none_held seed seen none (inr (inr (inl gone))) = gone
 none_held seed seen none (inr (inr (inr (i, (bytes, is, answers), left)))) = absurd (cc (none, is))
 
 -- a session
-run_good : (seed : List ℕ) (careful : Bool) (seen : Seen) (answer : Status) → Holds seed careful seen answer → IsTrue seen.desk.tells → IsGood seen.desk.before.held → IsGood seen.desk.after.held
+run_good : (seed : List ℕ) (careful : Bool) (seen : Seen) (answer : Status) → Holds seed careful seen answer → IsTrue seen.desk.tells → IsGood seen.desk.before.held.now → IsGood seen.desk.after.held.now
 run_good seed careful seen answer it told (inl none) = inl (none_held seed seen none (held_shut seed careful seen answer told it))
 run_good seed careful seen answer it told (inr (rack, later)) = by (runs_go_later seed careful seen answer it told (empty_contents rack) later)
   where
-    by : HasLater (empty_contents rack) seen.desk.after.held ⊎ (seen.desk.after.held ≡ None) → IsGood seen.desk.after.held
+    by : HasLater (empty_contents rack) seen.desk.after.held.now ⊎ (seen.desk.after.held.now ≡ None) → IsGood seen.desk.after.held.now
     by (inl more) = inr (rack, more)
     by (inr none) = inl none
 
 -- any run
-next_good : (words : List Text) (drawn : List ℕ) (seen : Seen) (answer : Status) → Runs words drawn seen answer → IsTrue seen.desk.tells → IsGood seen.desk.before.held → IsGood seen.desk.after.held
-next_good words drawn seen answer (Nothing none unread refuses same room) told good = still_good (held_in seen.desk) (same told) good
-next_good words drawn seen answer (Short is unread sink same room) told good = still_good (held_in seen.desk) (same told) good
-next_good words drawn seen answer (calls.Makes rack spells unread inits room) told good = made_good rack (held_in seen.desk) inits.made inits.image (inits.makes told) good
-next_good words drawn seen answer (Drilling d spells drills same room) told good = still_good (held_in seen.desk) (same told) good
-next_good words drawn seen answer (Recovering r spells unread recovers same) told good = still_good (held_in seen.desk) (same told) good
-next_good words drawn seen answer (Auditing a spells unread audits same room) told good = still_good (held_in seen.desk) (same told) good
-next_good words drawn seen answer (Generating n spells unread generates same room) told good = still_good (held_in seen.desk) (same told) good
+next_good : (words : List Text) (drawn : List ℕ) (seen : Seen) (answer : Status) → RunsProgram words drawn seen answer → IsTrue seen.desk.tells → IsGood seen.desk.before.held.now → IsGood seen.desk.after.held.now
+next_good words drawn seen answer (Nothing none unread refuses same room) told good = still_good (image_met seen.desk) (ap (λ (h : Images). h.now) (same told)) good
+next_good words drawn seen answer (Short is unread sink same room) told good = still_good (image_met seen.desk) (ap (λ (h : Images). h.now) (same told)) good
+next_good words drawn seen answer (calls.Makes rack spells unread inits room) told good = made_good rack (image_met seen.desk) inits.made inits.image (inits.makes told) good
+next_good words drawn seen answer (Drilling d spells drills same room) told good = still_good (image_met seen.desk) (ap (λ (h : Images). h.now) (same told)) good
+next_good words drawn seen answer (Recovering r spells unread recovers same) told good = still_good (image_met seen.desk) (ap (λ (h : Images). h.now) (same told)) good
+next_good words drawn seen answer (Auditing a spells unread audits same room) told good = still_good (image_met seen.desk) (ap (λ (h : Images). h.now) (same told)) good
+next_good words drawn seen answer (Generating n spells unread generates same room) told good = still_good (image_met seen.desk) (ap (λ (h : Images). h.now) (same told)) good
 next_good words drawn seen answer (Session that spelled it) told good = run_good (seed_of that drawn) that.careful seen answer it told good
 
 -- a recheck
@@ -457,5 +458,5 @@ recheck_good desk answer is (inr (rack, later)) = by (rechecks_go_on desk answer
 
 pub desks_stay_good : DesksStayGood
 desks_stay_good held Bare = inl refl
-desks_stay_good held (Next words drawn seen answer came runs told) = next_good words drawn seen answer runs told (desks_stay_good seen.desk.before.held came)
+desks_stay_good held (Next words drawn seen answer came runs told) = next_good words drawn seen answer runs told (desks_stay_good seen.desk.before.held.now came)
 desks_stay_good held (Recheck desk answer came is) = recheck_good desk answer is (desks_stay_good desk.before came)

@@ -18,6 +18,7 @@ use Rattle.pot_machine.specs.Rules.{IsTable}
 use Rattle.pot_machine.specs.Slot.{digest_in}
 use Rattle.pot_machine.specs.Table.{Table, archives_in, column_at, serving_at, width}
 use Rattle.pot_group.specs.Arrivals.{arrivals}
+use Rattle.pot_group.specs.Frames.{Tries}
 use Rattle.pot_group.specs.Remaining.{HasServed, KeepsServed}
 use Rattle.pot_group.proofs.Remains.{served_kept, serving_has}
 use Rattle.pot_image.specs.Images.{Contents}
@@ -33,8 +34,8 @@ use Rattle.pot_shared.proofs.Times.{contains_times, times-append, times_contains
 use Rattle.pot_session.specs.Serving.{IsInRoom, Leaves, came_by}
 use Rattle.pot_session.proofs.LossLemmas.{get_within}
 use Rattle.pot_promises.specs.Chains.{Again, IsRechecked, MayBeRechecked, Never}
-use Rattle.pot_promises.specs.Frames.{IsFramed}
-use Rattle.pot_promises.specs.Remaining.{BlocksRemain, HasClosed, HoldsOf, HoldsStill, InARow, OlderDeskFinds, OneTakes, Past, ServedRemain, Takes}
+use Rattle.pot_promises.specs.Frames.{IsSessionFramed}
+use Rattle.pot_promises.specs.Remaining.{BlocksRemainInRoom, HasClosed, HoldsOf, HoldsStill, InARow, OlderDeskFinds, OneTakes, PastSession, ServedRemain, MayTakeBlock}
 use Rattle.pot_promises.specs.Remaining.{NotBack, Brought, Elsewhere, Failed, Lost}
 use Rattle.pot_promises.proofs.FindingAgain.{digest_stays, rack_stays}
 use Rattle.pot_promises.proofs.Framing.{frame_of_run}
@@ -44,15 +45,15 @@ low_slot : (t : Table) (s : ℕ) → IsTable t → s < t.stripes → s < 2 ^ 32
 low_slot t s table lt = omega (arith, lt, table.size.stripes.1)
 
 -- what an archive holds that has served a slot, within its frame
-still_held : (read : Table) (log : List Entry) (u : Table) (givens : List (List ℕ)) (s c : ℕ) (d : Digest) (n : ℕ) (old new : Meaning) → s < 2 ^ 32 → IsFramed read log givens n old new → KeepsServed read u log s c d n
+still_held : (read : Table) (log : List Entry) (u : Table) (tried : Tries) (givens : List (List ℕ)) (s c : ℕ) (d : Digest) (n : ℕ) (old new : Meaning) → s < 2 ^ 32 → IsSessionFramed read log tried givens n old new → KeepsServed read u log s c d n
     → HoldsStill read log s c d old new
-still_held read log u givens s c d n old new low framed kept has = elim (framed.kept s has.0 low has.1) [
+still_held read log u tried givens s c d n old new low framed kept has = elim (framed.kept s has.0 low has.1) [
   | inl y ↦ inl (
     y.0,
     y.1,
     elim (framed.held s y.0 low y.1) [
       | inl before ↦ ap digest_of (same_Some y.0 has.0 (sym before ∙ has.1)) ∙ has.2
-      | inr now ↦ kept.wrote y.0 now
+      | inr now ↦ kept.wrote tried 0 y.0 now
     ],
   )
   | inr y ↦ elim y [ inl z ↦ inr (inl (kept.failed z)) | inr z ↦ inr (inr z) ]
@@ -81,8 +82,8 @@ module _ (first last : Contents) (room : Transition RoomState) (missing : List �
   held_over : (u : Table) (n : ℕ) → KeepsServed read u log s c d n → Contains (archives_in read) n → times n missing ≡ 0 → HoldsStill read log s c d (room.before.means n) (room.after.means n)
   held_over u n kept among back =
       let frame = frame_of_run first last room missing story told leaves group read log is_read is_log in
-      still_held read log u frame.0 s c d n (room.before.means n) (room.after.means n) (low_slot read s table low)
-      (frame.3 n (Contains-append_left (archives_in read) (arrivals log) n among) back) kept
+      still_held read log u frame.0 frame.1 s c d n (room.before.means n) (room.after.means n) (low_slot read s table low)
+      (frame.4 n (Contains-append_left (archives_in read) (arrivals log) n among) back) kept
 
 pub served_remain : ServedRemain
 served_remain first last room missing story fits told leaves group read written log is_read is_written is_log s c d n low within has fresh =
@@ -91,7 +92,7 @@ served_remain first last room missing story fits told leaves group read written 
       held_over first last room missing story fits told leaves group read log is_read is_log s c d low within kept.0 n kept.1,
     )
 
-pub blocks_remain : BlocksRemain
+pub blocks_remain : BlocksRemainInRoom
 blocks_remain first last room missing story fits told leaves group read log is_read is_log s c d low within live back fresh =
     let rules : IsTable read = (all_at_place (FitsTable first.rack) first.tables group read fits.tables.fits is_read).rules in
     let wide : c < width read = omega (arith, within) in
@@ -114,9 +115,9 @@ some_times (suc k) ne = omega arith
 
 module _ (g s c : ℕ) (d : Digest) (n : ℕ) where
   -- one session: what the archive holds then, or what may have taken it
-  one_session : (x : Past) → HasClosed x → (read written : Table) (log : List Entry) → slice_get x.first.tables g ≡ Some read → slice_get x.last.tables g ≡ Some written → slice_get x.last.group_logs g ≡ Some log
+  one_session : (x : PastSession) → HasClosed x → (read written : Table) (log : List Entry) → slice_get x.first.tables g ≡ Some read → slice_get x.last.tables g ≡ Some written → slice_get x.last.group_logs g ≡ Some log
       → s < read.stripes → c < read.data_columns → HasServed read s c d n → HoldsOf (x.room.before.means n) s d
-      → (HasServed written s c d n × HoldsOf (x.room.after.means n) s d) ⊎ Takes x g s c n
+      → (HasServed written s c d n × HoldsOf (x.room.after.means n) s d) ⊎ MayTakeBlock x g s c n
   one_session x closed read written log is_read is_written is_log low within has held = elim (cases_eq (times n x.missing) 0) [
     | inr ne ↦ inr (NotBack ne)
     | inl back ↦ elim (cases_eq (times n (came_by x.last.group_logs)) 0) [
@@ -174,7 +175,7 @@ module _ (g s c : ℕ) (d : Digest) (n : ℕ) where
   after_rechecks left last (Again {next} sofar rechecked) t is_t has = after_recheck left next last rechecked (after_rechecks left next sofar t is_t has)
 
   -- session after session
-  in_a_row : (left : Contents) (meant : ℕ → Meaning) (xs : List Past) (now : ℕ → Meaning) → InARow left meant xs now → (t : Table) → slice_get left.tables g ≡ Some t
+  in_a_row : (left : Contents) (meant : ℕ → Meaning) (xs : List PastSession) (now : ℕ → Meaning) → InARow left meant xs now → (t : Table) → slice_get left.tables g ≡ Some t
       → s < left.rack.stripes → c < left.rack.columns → HasServed t s c d n → HoldsOf (meant n) s d → HoldsOf (now n) s d ⊎ OneTakes xs g s c n
   in_a_row left meant [] now is t is_t low within has held = inl (subst (λ (f : ℕ → Meaning). HoldsOf (f n) s d) (sym is) held)
   in_a_row left meant (x ∷ xs) now ((next, rechecked, begins), closed, is_meant, rest) t is_t low within has held =

@@ -1,30 +1,23 @@
 -- The stretches of a job's key stream that blind its relays.
-use Rattle.std.proofs.Common.{◌≡◌, ◌<◌, ◌≤◌, ◌+◌, ◌*◌, ◌^◌, ◌⊎◌, ⊎_elim, inl, inr, ℕ, zero, suc, Bool, true, false, List, [], ◌∷◌, ◌++◌, length, refl, ap, sym, ◌∙◌, subst, arith, eqb-true, length-append}
+use Rattle.std.proofs.Common.{◌≡◌, ◌<◌, ◌≤◌, ◌+◌, ◌*◌, ◌⊎◌, ⊎_elim, inl, inr, ℕ, zero, suc, Bool, true, false, List, [], ◌∷◌, ◌++◌, length, refl, ap, sym, ◌∙◌, subst, arith, eqb-true, length-append}
 use Rattle.std.specs.Prelude.{◌==◌, Option, Some, None, filter, if◌then◌else◌, slice_get}
 use Rattle.std.proofs.lemmas.Bool.{cases_lt, eq-eqb}
 use Rattle.std.proofs.lemmas.List.{length-map}
 use Rattle.std.proofs.lemmas.Option.{same_Some, slice_get_within}
 use Rattle.pot_bytes.proofs.Elements.{element_at}
-use Rattle.pot_outside.specs.Accounts.{Content, Transition}
-use Rattle.pot_outside.specs.Rooms.{RoomState}
 use Rattle.pot_machine.specs.declared.entry.Entry.{Entry}
 use Rattle.pot_machine.specs.declared.entry.Entry.TheVariants.{Begin}
 use Rattle.pot_pads.specs.Pads.{Pads, bytes_from, moved, next_bytes, pads_of, stream}
 use Rattle.pot_pads.proofs.PadsLemmas.{moved-moved, moved-zero, next_bytes-moved}
-use Rattle.pot_script.specs.declared.grouping.Step.{Step}
 use Rattle.pot_group.specs.Group.{GroupView}
-use Rattle.pot_image.specs.Images.{Contents}
-use Rattle.pot_image.specs.Rules.{IsImage}
 use Rattle.pot_shared.specs.declared.member.Logged.{Logged}
 use Rattle.pot_shared.specs.Blinded.{HaveBlinds, job_blinds}
 use Rattle.pot_shared.specs.Blinds.{AreDrawn, Draw, blinds_for, dropped}
 use Rattle.pot_shared.specs.MendCalls.{drawn}
-use Rattle.pot_shared.specs.Members.{entries_of, kept_log}
+use Rattle.pot_shared.specs.Members.{kept_log}
 use Rattle.pot_shared.specs.Works.{blind_with, blinds_in, of_job}
 use Rattle.pot_shared.proofs.DrawLemmas.{drawn_on}
 use Rattle.pot_shared.proofs.MemberLemmas.{entries_kept}
-use Rattle.pot_session.specs.declared.ending.status.Status.{Status}
-use Rattle.pot_session.specs.Serving.{IsClosed}
 use Rattle.pot_promises.specs.Stretches.{BlindsOfRun, HaveStretches, StreamsApart}
 
 -- WHICH DRAW WENT TO A RELAY

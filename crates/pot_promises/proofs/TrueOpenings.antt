@@ -9,7 +9,7 @@ use Rattle.pot_machine.specs.Table.{Table, serving_at, width}
 use Rattle.pot_steps.specs.Stripe.{Stripe, IsSound, Sound, NoneBroken, HasFilling}
 use Rattle.pot_steps.specs.Law.{FindsUnsound, FewUnsound}
 use Rattle.pot_steps.specs.Holdings.{stripe_of}
-use Rattle.pot_steps.specs.GroupStep.{Breaks, FindsGone, Spared, as_read}
+use Rattle.pot_steps.specs.GroupStep.{BreaksStripe, FindsGone, Spared, as_read}
 use Rattle.pot_steps.proofs.Steps.{filling_stays}
 use Rattle.pot_image.specs.Rules.{FitsTable}
 use Rattle.pot_shared.specs.Groups.{IsOpened}
@@ -66,7 +66,7 @@ module _ (data_columns parity : ℕ) (a b : Stripe) (same : SameSound (data_colu
   other : SameSound (data_columns + parity) b a
   other = turned (data_columns + parity) a b same
 
-  breaks : Breaks data_columns parity a test → Breaks data_columns parity b test
+  breaks : BreaksStripe data_columns parity a test → BreaksStripe data_columns parity b test
   breaks x = record {
     none_broken = unbroken data_columns parity a b same x.none_broken;
     no_filling = λ f. x.no_filling (filling data_columns parity b a other f);

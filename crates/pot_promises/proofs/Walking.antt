@@ -9,7 +9,7 @@ use Rattle.pot_index.specs.declared.entry.Logged.{Logged}
 use Rattle.pot_index.specs.Entries as index
 use Rattle.pot_machine.specs.declared.entry.Entry.{Entry}
 use Rattle.pot_machine.specs.Logs.{own}
-use Rattle.pot_replies.specs.Sections.{Section, MovesThenRest, Follows}
+use Rattle.pot_replies.specs.Sections.{Section, MovesThenRest, FollowsSection}
 use Rattle.pot_replies.specs.Sessions.{AreSections, Answered, Answers, Rows, jobs_in, jobs_of}
 use Rattle.pot_replies.specs.Settings.{Setting}
 use Rattle.pot_replies.proofs.SessionLemmas.{own_in_sections}
@@ -19,7 +19,7 @@ use Rattle.pot_script.specs.declared.grouping.Step.TheVariants as steps
 use Rattle.pot_script.specs.declared.reply.Reply.{Reply}
 use Rattle.pot_commands.specs.Rows.{Row}
 use Rattle.pot_commands.specs.Steps.{step_of, steps_of}
-use Rattle.pot_promises.specs.Answers.{IsAnswered, StandsAt, count_in, count_replies, reply_place, job_at}
+use Rattle.pot_promises.specs.Answers.{IsAnswered, CommandStandsAt, count_in, count_replies, reply_place, job_at}
 use Rattle.pot_promises.proofs.Replying.{as_many, element_behind, element_in_front, element_pushed}
 
 module _ (s : Setting) where
@@ -48,7 +48,7 @@ module _ (s : Setting) where
       absurd (let two : suc (suc (length now)) ≡ 1 = as_many s job d (x ∷ y ∷ now) w h row ∙ (ap (count_replies s.rack) same ∙ one) in let no : ⊥ = omega (arith, two) in no)
 
   its_row : (d : Step) (job i : ℕ) (now : List Reply) (w : Section) (h : MovesThenRest w) (c : Command) (r : Reply) (later : List Reply) → Answered (Row s) job (step_of d) now w h
-      → StandsAt d i c → count_replies s.rack c ≡ 1 → slice_get (now ++ later) i ≡ Some r → Row s (job + i) c (r ∷ []) w h
+      → CommandStandsAt d i c → count_replies s.rack c ≡ 1 → slice_get (now ++ later) i ≡ Some r → Row s (job + i) c (r ∷ []) w h
   its_row (steps.One d) job i now w h c r later row (none, same) one first =
       subst (λ j. Row s j c (r ∷ []) w h) (let e : job ≡ job + i = omega (arith, none) in e)
       (one_row d job now w h c r later row same one (subst (λ n. slice_get (now ++ later) n ≡ Some r) none first))
@@ -79,11 +79,11 @@ module _ (s : Setting) where
   answered_here : (d : Step) (ss : List Step) (job : ℕ) (now later rs : List Reply) (w : Section) (h : MovesThenRest w) (i : ℕ) (c : Command) (r : Reply)
       → Answered (Row s) job (step_of d) now w h → rs ≡ now ++ later → count_replies s.rack c ≡ 1 → IsAnswered s.rack (d ∷ ss) rs zero i c r → Row s (job + i) c (r ∷ []) w h
   answered_here d ss job now later rs w h i c r row is one answered =
-      its_row d job i now w h c r later row (subst (λ x. StandsAt x i c) (sym (same_Some d answered.step answered.there)) answered.command) one
+      its_row d job i now w h c r later row (subst (λ x. CommandStandsAt x i c) (sym (same_Some d answered.step answered.there)) answered.command) one
       (subst (λ l. slice_get l i ≡ Some r) is (subst (λ n. slice_get rs n ≡ Some r) (let e : 0 + i ≡ i = omega arith in e) answered.reply))
 
   -- and the other way: a reply of the first step is one of all
-  pub is_answered_here : (d : Step) (ss : List Step) (now later rs : List Reply) (i : ℕ) (c : Command) (r : Reply) → rs ≡ now ++ later → StandsAt d i c
+  pub is_answered_here : (d : Step) (ss : List Step) (now later rs : List Reply) (i : ℕ) (c : Command) (r : Reply) → rs ≡ now ++ later → CommandStandsAt d i c
       → slice_get now i ≡ Some r → IsAnswered s.rack (d ∷ ss) rs zero i c r
   is_answered_here d ss now later rs i c r is stands got = record {
     step = d;
@@ -145,13 +145,13 @@ module _ (s : Setting) where
 
 -- WHOSE ENTRIES A SECTION HAS
 
-within : (d : Step) (i : ℕ) (c : Command) → StandsAt d i c → i < jobs_in (step_of d)
+within : (d : Step) (i : ℕ) (c : Command) → CommandStandsAt d i c → i < jobs_in (step_of d)
 within (steps.One e) i c (none, same) = omega (arith, none)
 within (steps.Together lines) i c at = slice_get_within lines i c at
 
 -- What all logs have of a command's job is what the section of its step has.
 pub own_at : (ss : List Step) (ones : List Section) (w : Section) (k i : ℕ) (d : Step) (c : Command) (one : Section) → AreSections 1 (steps_of ss) ones w
-    → slice_get ss k ≡ Some d → StandsAt d i c → slice_get ones k ≡ Some one
+    → slice_get ss k ≡ Some d → CommandStandsAt d i c → slice_get ones k ≡ Some one
     → ((g : ℕ) → own (job_at ss k i) (w.added g) ≡ own (job_at ss k i) (one.added g)) × (index.own (job_at ss k i) w.index_added ≡ index.own (job_at ss k i) one.index_added)
 own_at ss ones w k i d c one are there stands here =
     let at : slice_get (steps_of ss) k ≡ Some (step_of d) = slice_get-map step_of ss k ∙ ap (option_map step_of) there in
@@ -172,7 +172,7 @@ pub record IsCut (one w : Section) : Type 0 where
   pub index_before : one.index_before ≡ w.index_before ++ index_earlier
   pub index_added : w.index_added ≡ index_earlier ++ (one.index_added ++ index_later)
 
-cut_first : (one rest w : Section) → Follows one rest w → IsCut one w
+cut_first : (one rest w : Section) → FollowsSection one rest w → IsCut one w
 cut_first one rest w follows = record {
   earlier = λ g. [];
   later = rest.added;
@@ -184,7 +184,7 @@ cut_first one rest w follows = record {
   index_added = follows.index_is_added;
 }
 
-cut_rest : (one rest w two : Section) → Follows one rest w → IsCut two rest → IsCut two w
+cut_rest : (one rest w two : Section) → FollowsSection one rest w → IsCut two rest → IsCut two w
 cut_rest one rest w two follows cut = record {
   earlier = λ g. one.added g ++ cut.earlier g;
   later = cut.later;

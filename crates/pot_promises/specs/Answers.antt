@@ -27,16 +27,16 @@ reply_place rack (d ∷ ss) (suc k) = count_in rack d + reply_place rack ss k
 
 -- the command stands at this place of the step: one alone at the first, and a line of a batch at
 -- its own
-abbrev pub StandsAt : Step → ℕ → Command → Type 0
-StandsAt (steps.One d) i c = (i ≡ 0) × (d ≡ c)
-StandsAt (steps.Together lines) i c = slice_get lines i ≡ Some c
+abbrev pub CommandStandsAt : Step → ℕ → Command → Type 0
+CommandStandsAt (steps.One d) i c = (i ≡ 0) × (d ≡ c)
+CommandStandsAt (steps.Together lines) i c = slice_get lines i ≡ Some c
 
 -- The step of one place has this command at another, and that command's first reply is this one.
 pub record IsAnswered (rack : Rack) (ss : List Step) (rs : List Reply) (k i : ℕ) (c : Command)
     (r : Reply) : Type 0 where
   pub step : Step
   pub there : slice_get ss k ≡ Some step
-  pub command : StandsAt step i c
+  pub command : CommandStandsAt step i c
   pub reply : slice_get rs (reply_place rack ss k + i) ≡ Some r
 
 -- The number of the job of the command at a place of a step: the jobs of a session are numbered

@@ -9,7 +9,7 @@ use Rattle.pot_image.specs.Images.{Contents}
 use Rattle.pot_image.specs.Rules.{FitsTogether}
 use Rattle.pot_recheck.specs.declared.listing.Unsound.{Unsound}
 use Rattle.pot_recheck.specs.Finding.{IsFound}
-use Rattle.pot_replies.specs.Sections.{Section, Follows}
+use Rattle.pot_replies.specs.Sections.{Section, FollowsSection}
 use Rattle.pot_replies.specs.Sessions.{Replied}
 use Rattle.pot_commands.specs.Rows.{Row}
 use Rattle.pot_commands.specs.Steps.{steps_of}
@@ -25,7 +25,7 @@ AllLead tables w left =
 
 -- A session over the image with which it began, whose parts fit together, left that image: its logs
 -- lead from the records and the tables of the one to those of the other.
-pub record Leaves (first last : Contents) : Type 0 where
+pub record LeavesImage (first last : Contents) : Type 0 where
   pub fits : FitsTogether first
   pub story : Section
   pub rack : last.rack ≡ first.rack
@@ -45,12 +45,12 @@ pub record IsSession (seed : List ℕ) (first last : Contents) (ss : List Step)
   pub groups : AllLead first.tables story last.tables
   pub done : Section
   pub later : Section
-  pub follows : Follows done later story
+  pub follows : FollowsSection done later story
   pub replied : Replied (Row (setting_of seed first)) 1 (steps_of ss) rs done
 
 -- An image with which a session may begin, for one that an earlier session left: the rack, the
 -- tables and the records are the same, and the number of the session and the logs may be any.
-pub record Begins (left first : Contents) : Type 0 where
+pub record BeginsFrom (left first : Contents) : Type 0 where
   pub rack : first.rack ≡ left.rack
   pub tables : first.tables ≡ left.tables
   pub records : first.records ≡ left.records
@@ -71,14 +71,14 @@ pub data MayBeRechecked (left : Contents) : Contents → Type 0 where
 -- An image with which a session may begin, for one that an earlier session left and that may have
 -- been rechecked since.
 abbrev pub BeginsAfter : Contents → Contents → Type 0
-BeginsAfter left first = (next : Contents) × MayBeRechecked left next × Begins next first
+BeginsAfter left first = (next : Contents) × MayBeRechecked left next × BeginsFrom next first
 
 -- From one image to another by any number of sessions and rechecks, each over the image that the
 -- one before left. A session closed, or only began, and the desk has the image of its close or of
 -- its beginning. A recheck left what it made of the image.
 pub data Later (from : Contents) : Contents → Type 0 where
   Same : Later from from
-  Begun : {left first : Contents} → Later from left → Begins left first → Later from first
-  More : {left first last : Contents} → Later from left → Begins left first → Leaves first last
+  Begun : {left first : Contents} → Later from left → BeginsFrom left first → Later from first
+  More : {left first last : Contents} → Later from left → BeginsFrom left first → LeavesImage first last
       → Later from last
   FoundAgain : {left next : Contents} → Later from left → IsRechecked left next → Later from next

@@ -9,9 +9,9 @@ use Rattle.pot_image.specs.declared.image.Image.{Image}
 use Rattle.pot_image.specs.Images.{Contents}
 use Rattle.pot_session.specs.declared.ending.status.Status.{Status}
 use Rattle.pot_session.specs.declared.ending.status.Status.TheVariants as status
-use Rattle.pot_session.specs.Calls.{Runs}
-use Rattle.pot_session.specs.Commands.{IsRead}
-use Rattle.pot_session.specs.Desks.{CanGoOn, GoesOn, HoldsImage}
+use Rattle.pot_session.specs.Calls.{RunsProgram}
+use Rattle.pot_session.specs.Commands.{IsScriptRead}
+use Rattle.pot_session.specs.Desks.{CanGoOn, ImageGoesOn, HoldsImage}
 use Rattle.pot_session.specs.Runs.{Seen}
 use Rattle.pot_session.specs.Tasks.{seed_of}
 use Rattle.pot_promises.specs.Runs.{HasImage, IsDone, RanAs}
@@ -37,10 +37,10 @@ AsksSession words drawn seed =
 abbrev pub RunsAreAnswered : Type 0
 RunsAreAnswered =
     (words : List Text) (drawn : List ℕ) (seen : Seen) (answer : Status)
-    → Runs words drawn seen answer → IsTrue seen.source.tells → IsTrue seen.desk.tells
+    → RunsProgram words drawn seen answer → IsTrue seen.source.tells → IsTrue seen.desk.tells
     → (given : List ℕ) → AsksSession words drawn given
-    → (image : Image) → HoldsImage seen.desk.before.held image → GoesOn image
-    → (steps : List Step) → IsRead image.rack seen.source steps
+    → (image : Image) → HoldsImage seen.desk.before.held.now image → ImageGoesOn image
+    → (steps : List Step) → IsScriptRead image.rack seen.source steps
     → (IsFault answer → ⊥) → (answer ≡ status.NoMemory → ⊥)
     → IsDone answer × ((seed : List ℕ) × AsksSession words drawn seed × RanAs seed seen)
 
@@ -48,9 +48,9 @@ RunsAreAnswered =
 abbrev pub NextIsAnswered : Type 0
 NextIsAnswered =
     (words : List Text) (drawn : List ℕ) (seen : Seen) (answer : Status)
-    → Runs words drawn seen answer → IsTrue seen.source.tells → IsTrue seen.desk.tells
+    → RunsProgram words drawn seen answer → IsTrue seen.source.tells → IsTrue seen.desk.tells
     → (given : List ℕ) → AsksSession words drawn given
-    → (left : Contents) → HasImage seen.desk.before.held left → CanGoOn left
-    → (steps : List Step) → IsRead left.rack seen.source steps
+    → (left : Contents) → HasImage seen.desk.before.held.now left → CanGoOn left
+    → (steps : List Step) → IsScriptRead left.rack seen.source steps
     → (IsFault answer → ⊥) → (answer ≡ status.NoMemory → ⊥)
     → IsDone answer × ((seed : List ℕ) × AsksSession words drawn seed × RanAs seed seen)

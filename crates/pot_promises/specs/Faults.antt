@@ -13,7 +13,7 @@ use Rattle.pot_script.specs.declared.reply.Reply.{Reply}
 use Rattle.pot_script.specs.declared.reply.Reply.TheVariants as replies
 use Rattle.pot_image.specs.Images.{Contents}
 use Rattle.pot_image.specs.Rules.{FitsTogether}
-use Rattle.pot_replies.specs.Sections.{Section, Follows}
+use Rattle.pot_replies.specs.Sections.{Section, FollowsSection}
 use Rattle.pot_replies.specs.Sessions.{Replied}
 use Rattle.pot_shared.specs.Hands.{times}
 use Rattle.pot_commands.specs.Rows.{Row}
@@ -35,7 +35,7 @@ FaultsAreCounted =
     (seed : List ℕ) (first last : Contents) (room : Transition RoomState) (missing : List ℕ)
     (story : Section)
     → FitsTogether first → IsTrue room.tells → Leaves room missing first last story
-    → (ss : List Step) (rs : List Reply) (done later : Section) → Follows done later story
+    → (ss : List Step) (rs : List Reply) (done later : Section) → FollowsSection done later story
     → Replied (Row (setting_of seed first)) 1 (steps_of ss) rs done
     → (k i : ℕ) (c : Command) (group column : ℕ)
     → IsAnswered first.rack ss rs k i c (replies.Fault group column)

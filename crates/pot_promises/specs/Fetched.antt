@@ -23,7 +23,7 @@ use Rattle.pot_image.specs.Rules.{FitsTogether}
 use Rattle.pot_replies.specs.Digests.{NoTwoAlike}
 use Rattle.pot_replies.specs.Fetches.{IsLost}
 use Rattle.pot_replies.specs.Listings.{IsIndexFull}
-use Rattle.pot_replies.specs.Sections.{Section, Follows}
+use Rattle.pot_replies.specs.Sections.{Section, FollowsSection}
 use Rattle.pot_replies.specs.Sessions.{Replied}
 use Rattle.pot_commands.specs.Rows.{Row}
 use Rattle.pot_commands.specs.Steps.{steps_of}
@@ -31,7 +31,7 @@ use Rattle.pot_shared.specs.Hands.{times}
 use Rattle.pot_session.specs.Losses.{BeginWith, FewCanBeHad}
 use Rattle.pot_session.specs.Serving.{Leaves, setting_of}
 use Rattle.pot_promises.specs.Answers.{IsAnswered, job_at}
-use Rattle.pot_promises.specs.Chains.{IsSession, Begins, Later}
+use Rattle.pot_promises.specs.Chains.{IsSession, BeginsFrom, Later}
 use Rattle.pot_promises.specs.Faults.{HasFailed}
 use Rattle.pot_promises.specs.Odds.{WasOdd}
 use Rattle.pot_promises.specs.Veils.{stream_blocks}
@@ -50,7 +50,7 @@ pub data WasStored (name file : List ℕ) (first : Contents) (ss : List Step) (r
       → (p i : ℕ) (of : List ℕ) (pieces shards : ℕ)
       → IsAnswered begun.rack steps said p i (commands.Store name file)
       (replies.Stored of pieces shards)
-      → Later last left → Begins left first → WasStored name file first ss rs q
+      → Later last left → BeginsFrom left first → WasStored name file first ss rs q
 
 -- the blocks that the store put, by the seed of its session and the stream of its job
 abbrev pub blocks_put : (seed name file : List ℕ) (first : Contents) (ss : List Step)
@@ -92,8 +92,8 @@ pub record IsLostBy (seed : List ℕ) (first last : Contents) (room : Transition
       → FewCanBeHad (setting_of seed first) job lost.kept piece number w
 
 -- The log of this group of the session is full.
-abbrev pub IsFull : Contents → ℕ → Type 0
-IsFull last g =
+abbrev pub IsGroupLogFull : Contents → ℕ → Type 0
+IsGroupLogFull last g =
     (log : List Entry) × (slice_get last.group_logs g ≡ Some log) × (length log ≡ log_bound)
 
 -- What each reply says. Bytes are those of the file, unless the two texts differ and have one
@@ -118,7 +118,7 @@ SaysOf seed first last room missing ss ones q j name file put w (replies.Fault g
     → slice_get first.tables group ≡ Some read → slice_get last.group_logs group ≡ Some log
     → HasFailed room.before.means room.after.means missing (archives_of read log column)
 SaysOf seed first last room missing ss ones q j name file put w (replies.LogFull group) =
-    IsFull last group
+    IsGroupLogFull last group
 SaysOf seed first last room missing ss ones q j name file put w replies.IndexLogFull =
     IsIndexFull (setting_of seed first) 1 (job_at ss q j) w
 SaysOf seed first last room missing ss ones q j name file put w _ = ⊥
@@ -130,7 +130,7 @@ FetchAnswers =
     (seed : List ℕ) (first last : Contents) (room : Transition RoomState) (missing : List ℕ)
     (story : Section)
     → FitsTogether first → Leaves room missing first last story
-    → (ss : List Step) (rs : List Reply) (done later : Section) → Follows done later story
+    → (ss : List Step) (rs : List Reply) (done later : Section) → FollowsSection done later story
     → (replied : Replied (Row (setting_of seed first)) 1 (steps_of ss) rs done)
     → AllByRecursion (IsWholeStep first.rack) ss
     → (q j : ℕ) (name file : List ℕ) → (was : WasStored name file first ss rs q)

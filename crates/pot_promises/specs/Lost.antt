@@ -14,7 +14,7 @@ use Rattle.pot_script.specs.Steps.{IsWholeStep}
 use Rattle.pot_image.specs.Images.{Contents}
 use Rattle.pot_image.specs.Rules.{FitsTogether}
 use Rattle.pot_replies.specs.Fetches.{IsLost}
-use Rattle.pot_replies.specs.Sections.{Section, Follows}
+use Rattle.pot_replies.specs.Sections.{Section, FollowsSection}
 use Rattle.pot_replies.specs.Sessions.{Replied}
 use Rattle.pot_replies.specs.Settings.{Setting}
 use Rattle.pot_commands.specs.Rows.{Row}
@@ -49,7 +49,7 @@ LostIsFew =
     → FitsTogether first → IsTrue room.tells → Leaves room missing first last story
     → AreBack missing first.tables last.group_logs
     → LostNone room.before.means room.after.means first.tables last.group_logs
-    → (ss : List Step) (rs : List Reply) (done later : Section) → Follows done later story
+    → (ss : List Step) (rs : List Reply) (done later : Section) → FollowsSection done later story
     → Replied (Row (setting_of seed first)) 1 (steps_of ss) rs done
     → AllByRecursion (IsWholeStep first.rack) ss
     → (k i : ℕ) (c : Command) (name of : List ℕ) (piece fragment have need : ℕ) → Fetches name c

@@ -13,7 +13,7 @@ use Rattle.pot_replies.specs.Fetches.{IsOdd}
 use Rattle.pot_replies.specs.Sections.{Section, MovesThenRest, work_of}
 use Rattle.pot_session.specs.Serving.{setting_of}
 use Rattle.pot_promises.specs.Answers.{IsAnswered, job_at}
-use Rattle.pot_promises.specs.Chains.{Begins, IsSession, Later}
+use Rattle.pot_promises.specs.Chains.{BeginsFrom, IsSession, Later}
 use Rattle.pot_promises.specs.Veils.{stream_blocks}
 
 -- The fetch of a name at this place was odd: the digest of the bytes was not the wanted one. Each
@@ -68,7 +68,7 @@ NeverOddLater =
     → IsAnswered first.rack ss rs p i (commands.Store name file) (replies.Stored of pieces shards)
     → (left : Contents) → Later last left
     → (seed2 : List ℕ) (first2 last2 : Contents) (ss2 : List Step) (rs2 : List Reply)
-    → Begins left first2 → (session2 : IsSession seed2 first2 last2 ss2 rs2)
+    → BeginsFrom left first2 → (session2 : IsSession seed2 first2 last2 ss2 rs2)
     → (q j : ℕ) (read : List (List ℕ)) (wanted got : Digest)
     → (was : WasOdd read seed2 first2 ss2 session2.replied.ones q j name wanted got)
     → was.odd.kept.older ≡ []

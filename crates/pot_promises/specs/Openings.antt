@@ -6,7 +6,7 @@ use Rattle.pot_outside.specs.Rooms.{RoomState}
 use Rattle.pot_machine.specs.declared.entry.Entry.{Entry}
 use Rattle.pot_machine.specs.Table.{Table, archives_in, width}
 use Rattle.pot_steps.specs.Holdings.{stripe_of}
-use Rattle.pot_steps.specs.GroupStep.{Breaks, FindsGone, Spared, opening}
+use Rattle.pot_steps.specs.GroupStep.{BreaksStripe, FindsGone, Spared, opening}
 use Rattle.pot_image.specs.Images.{Contents}
 use Rattle.pot_image.specs.Rules.{FitsTogether}
 use Rattle.pot_replies.specs.Sections.{Section}
@@ -24,7 +24,7 @@ pub record OpensAsMeant (meant : ℕ → Meaning) (t : Table) (log : List Entry)
   pub finds : (s : ℕ) → s < t.stripes
       → FindsGone (width t) (stripe_of t (λ n. (meant n).held) s) (gone s)
   pub breaks : (s : ℕ) → s < t.stripes
-      → Breaks t.data_columns t.parity (stripe_of t (λ n. (meant n).held) s) (broke s)
+      → BreaksStripe t.data_columns t.parity (stripe_of t (λ n. (meant n).held) s) (broke s)
       ⊎ Spared t.data_columns t.parity (stripe_of t (λ n. (meant n).held) s) (broke s)
   pub is : log ≡ opening (width t) t.stripes gone broke
 

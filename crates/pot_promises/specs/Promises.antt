@@ -7,7 +7,7 @@ use Rattle.pot_script.specs.declared.reply.Reply.TheVariants as replies
 use Rattle.pot_image.specs.Images.{Contents}
 use Rattle.pot_replies.specs.Digests.{NoTwoAlike}
 use Rattle.pot_promises.specs.Answers.{IsAnswered}
-use Rattle.pot_promises.specs.Chains.{IsSession, Begins, Later}
+use Rattle.pot_promises.specs.Chains.{IsSession, BeginsFrom, Later}
 
 -- The very file: a command of step p of the script was `store` of a file under a name, and was
 -- answered `stored`; one of a later step q was `fetch` of that name, and was answered with bytes.
@@ -35,7 +35,7 @@ GivesBackLater =
     → IsAnswered first.rack ss rs p i (commands.Store name file) (replies.Stored of pieces shards)
     → (left : Contents) → Later last left
     → (seed2 : List ℕ) (first2 last2 : Contents) (ss2 : List Step) (rs2 : List Reply)
-    → Begins left first2 → IsSession seed2 first2 last2 ss2 rs2
+    → BeginsFrom left first2 → IsSession seed2 first2 last2 ss2 rs2
     → (q j : ℕ) (given bytes : List ℕ)
     → IsAnswered first2.rack ss2 rs2 q j (commands.Fetch name) (replies.File given bytes)
     → NoTwoAlike (file ∷ bytes ∷ []) → bytes ≡ file

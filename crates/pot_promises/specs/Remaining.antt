@@ -17,7 +17,7 @@ use Rattle.pot_image.specs.Images.{Contents}
 use Rattle.pot_image.specs.Rules.{FitsTogether}
 use Rattle.pot_replies.specs.Sections.{Section}
 use Rattle.pot_shared.specs.Hands.{times}
-use Rattle.pot_session.specs.Serving.{Leaves, OthersStay, came_by}
+use Rattle.pot_session.specs.Serving.{Leaves, OtherArchivesStay, came_by}
 use Rattle.pot_promises.specs.Chains.{BeginsAfter}
 
 -- an archive holds a block of this digest in this slot
@@ -35,8 +35,8 @@ HoldsStill read log s c d old new =
 -- archive that serves it there holds its block still, if the room took it back and the log did not
 -- bring it anew. This is whatever became of the slot and its column: the archive may have been
 -- retired since.
-abbrev pub BlocksRemain : Type 0
-BlocksRemain =
+abbrev pub BlocksRemainInRoom : Type 0
+BlocksRemainInRoom =
     (first last : Contents) (room : Transition RoomState) (missing : List ℕ) (story : Section)
     → FitsTogether first → IsTrue room.tells → Leaves room missing first last story
     → (group : ℕ) (read : Table) (log : List Entry)
@@ -68,7 +68,7 @@ ServedRemain =
 
 -- a session: the image with which it began and the one that it left, the room, the archives that
 -- the room did not take back, and what the logs gained
-pub record Past : Type 0 where
+pub record PastSession : Type 0 where
   pub first : Contents
   pub last : Contents
   pub room : Transition RoomState
@@ -77,16 +77,16 @@ pub record Past : Type 0 where
 
 -- It closed, as `IsClosed` of its run tells. Archives that neither its image nor its logs name are
 -- as they were.
-pub record HasClosed (x : Past) : Type 0 where
+pub record HasClosed (x : PastSession) : Type 0 where
   pub fits : FitsTogether x.first
   pub told : IsTrue x.room.tells
   pub leaves : Leaves x.room x.missing x.first x.last x.story
-  pub others : OthersStay x.first.tables x.last.group_logs x.room.before.means x.room.after.means
+  pub others : OtherArchivesStay x.first.tables x.last.group_logs x.room.before.means x.room.after.means
 
 -- Sessions over one room, each of which began with the image that the one before left, or with what
 -- rechecks made of it. The first began so with this image, when the room meant this, and after the
 -- last it means that.
-abbrev pub InARow : Contents → (ℕ → Meaning) → List Past → (ℕ → Meaning) → Type 0
+abbrev pub InARow : Contents → (ℕ → Meaning) → List PastSession → (ℕ → Meaning) → Type 0
 InARow left meant [] now = now ≡ meant
 InARow left meant (x ∷ xs) now =
     BeginsAfter left x.first × HasClosed x × (x.room.before.means ≡ meant)
@@ -95,27 +95,27 @@ InARow left meant (x ∷ xs) now =
 -- What may have taken, in one session, the block that an archive had in a data slot of a group: the
 -- room did not take the archive back; a log brought it to a group; it was in the table of another
 -- group alone; a relay's write into the slot failed; or its count of losses rose.
-pub data Takes (x : Past) (g s c n : ℕ) : Type 0 where
-  NotBack : times n x.missing ≢ 0 → Takes x g s c n
-  Brought : times n (came_by x.last.group_logs) ≢ 0 → Takes x g s c n
+pub data MayTakeBlock (x : PastSession) (g s c n : ℕ) : Type 0 where
+  NotBack : times n x.missing ≢ 0 → MayTakeBlock x g s c n
+  Brought : times n (came_by x.last.group_logs) ≢ 0 → MayTakeBlock x g s c n
   Elsewhere : (read : Table) → slice_get x.first.tables g ≡ Some read
       → times n (archives_in read) ≡ 0 → times n (flat_map archives_in x.first.tables) ≢ 0
-      → Takes x g s c n
+      → MayTakeBlock x g s c n
   Failed : (read : Table) (log : List Entry) → slice_get x.first.tables g ≡ Some read
-      → slice_get x.last.group_logs g ≡ Some log → MendFailed read log s c → Takes x g s c n
-  Lost : Rose (x.room.before.means n).losses (x.room.after.means n).losses → Takes x g s c n
+      → slice_get x.last.group_logs g ≡ Some log → MendFailed read log s c → MayTakeBlock x g s c n
+  Lost : Rose (x.room.before.means n).losses (x.room.after.means n).losses → MayTakeBlock x g s c n
 
 -- in one of the sessions
-abbrev pub OneTakes : List Past → ℕ → ℕ → ℕ → ℕ → Type 0
+abbrev pub OneTakes : List PastSession → ℕ → ℕ → ℕ → ℕ → Type 0
 OneTakes [] g s c n = ⊥
-OneTakes (x ∷ xs) g s c n = Takes x g s c n ⊎ OneTakes xs g s c n
+OneTakes (x ∷ xs) g s c n = MayTakeBlock x g s c n ⊎ OneTakes xs g s c n
 
 -- The desk of before, put back, finds its blocks: after any sessions in a row over its room, with
 -- rechecks between them or not, the archive that serves a Live data slot by the image of before
 -- holds its block, if it held it then, unless one of these sessions has taken it.
 abbrev pub OlderDeskFinds : Type 0
 OlderDeskFinds =
-    (desk : Contents) (meant now : ℕ → Meaning) (xs : List Past) → FitsTogether desk
+    (desk : Contents) (meant now : ℕ → Meaning) (xs : List PastSession) → FitsTogether desk
     → InARow desk meant xs now
     → (g : ℕ) (t : Table) → slice_get desk.tables g ≡ Some t
     → (s c : ℕ) (d : Digest) → s < t.stripes → c < t.data_columns → slot_at t s c ≡ Live d

@@ -15,7 +15,7 @@ use Rattle.pot_replies.specs.Sections.{Section, MovesThenRest, work_of}
 use Rattle.pot_store.specs.Drawing.{blocks_from}
 use Rattle.pot_session.specs.Serving.{setting_of}
 use Rattle.pot_promises.specs.Answers.{IsAnswered, job_at}
-use Rattle.pot_promises.specs.Chains.{IsSession, Begins, Later}
+use Rattle.pot_promises.specs.Chains.{IsSession, BeginsFrom, Later}
 use Rattle.pot_promises.specs.Fetched.{WasStored}
 use Rattle.pot_promises.specs.Odds.{WasOdd}
 use Rattle.pot_promises.specs.Veils.{stream_blocks}
@@ -88,7 +88,7 @@ NeverOddRenewedLater =
     → (it : WasRenewed seed first ss session.replied.ones p i name geometry pieces shards)
     → NoTwoAlike (file ∷ it.renewed.all.file ∷ []) → (left : Contents) → Later last left
     → (seed2 : List ℕ) (first2 last2 : Contents) (ss2 : List Step) (rs2 : List Reply)
-    → Begins left first2 → (session2 : IsSession seed2 first2 last2 ss2 rs2)
+    → BeginsFrom left first2 → (session2 : IsSession seed2 first2 last2 ss2 rs2)
     → (q j : ℕ) (read : List (List ℕ)) (wanted got : Digest)
     → (was : WasOdd read seed2 first2 ss2 session2.replied.ones q j name wanted got)
     → length was.odd.kept.older ≡ length it.renewed.now.older

@@ -5,7 +5,8 @@ use Rattle.pot_options.specs.Options.{Text}
 use Rattle.pot_words.specs.Tasks.{SpellTask}
 use Rattle.pot_words.specs.declared.run.Run.{Run}
 use Rattle.pot_words.specs.declared.task.Task.TheVariants as task
-use Rattle.pot_outside.specs.Accounts.{Transition, held_in}
+use Rattle.pot_outside.specs.Accounts.{Transition}
+use Rattle.pot_outside.specs.Desks.{image_met}
 use Rattle.pot_script.specs.declared.grouping.Step.{Step}
 use Rattle.pot_script.specs.declared.reply.Reply.{Reply}
 use Rattle.pot_image.specs.declared.image.Image.{Image}
@@ -19,12 +20,12 @@ use Rattle.pot_commands.specs.Ends.{texts_of}
 use Rattle.pot_commands.specs.Streams.{Wrote}
 use Rattle.pot_session.specs.declared.ending.status.Status.{Status}
 use Rattle.pot_session.specs.declared.ending.status.Status.TheVariants as status
-use Rattle.pot_session.specs.Commands.{IsRead}
-use Rattle.pot_session.specs.Calls.{Runs}
+use Rattle.pot_session.specs.Commands.{IsScriptRead}
+use Rattle.pot_session.specs.Calls.{RunsProgram}
 use Rattle.pot_session.specs.Desks.{HoldsImage, begun}
 use Rattle.pot_session.specs.Making.{empty_contents}
 use Rattle.pot_session.specs.Runs.{Holds, Seen}
-use Rattle.pot_promises.specs.Chains.{IsSession, Begins, BeginsAfter, Later}
+use Rattle.pot_promises.specs.Chains.{IsSession, BeginsFrom, BeginsAfter, Later}
 
 -- The desk has this image, as it is written, and the image keeps the rules of images.
 abbrev pub HasImage : Option (List ℕ) → Contents → Type 0
@@ -41,14 +42,14 @@ IsDone _ = ⊥
 -- keeps the rules of images.
 pub record RanAs (seed : List ℕ) (seen : Seen) : Type 0 where
   pub read : Image
-  pub was_held : HoldsImage seen.desk.before.held read
+  pub was_held : HoldsImage seen.desk.before.held.now read
   pub steps : List Step
-  pub script : IsRead read.rack seen.source steps
+  pub script : IsScriptRead read.rack seen.source steps
   pub last : Contents
   pub replies : List Reply
   pub session : IsSession seed (begun (contents read)) last steps replies
   pub written : Wrote seen.sink (texts_of replies)
-  pub left : HasImage seen.desk.after.held last
+  pub left : HasImage seen.desk.after.held.now last
 
 -- What is told of a run of the program by its own contract: where the desk tells its image and the
 -- status is 0 or 1, it was such a session. So what is promised of sessions is promised of runs.
@@ -66,9 +67,9 @@ RunsAreSessions =
 -- memory ran out, the one with which the session began, or none. Each keeps the rules of images.
 pub record ClosedAs (seed : List ℕ) (seen : Seen) : Type 0 where
   pub read : Image
-  pub was_held : HoldsImage seen.desk.before.held read
+  pub was_held : HoldsImage seen.desk.before.held.now read
   pub steps : List Step
-  pub script : IsRead read.rack seen.source steps
+  pub script : IsScriptRead read.rack seen.source steps
   pub answered : List Step
   pub rest : List Step
   pub parts : steps ≡ answered ++ rest
@@ -77,8 +78,8 @@ pub record ClosedAs (seed : List ℕ) (seen : Seen) : Type 0 where
   pub session : IsSession seed (begun (contents read)) last answered replies
   pub written : IsTrue seen.sink.tells
       → (more : List ℕ) × (seen.sink.before ++ texts_of replies ≡ seen.sink.after ++ more)
-  pub left : HasImage seen.desk.after.held (begun (contents read))
-      ⊎ (HasImage seen.desk.after.held last ⊎ (seen.desk.after.held ≡ None))
+  pub left : HasImage seen.desk.after.held.now (begun (contents read))
+      ⊎ (HasImage seen.desk.after.held.now last ⊎ (seen.desk.after.held.now ≡ None))
 
 -- No session closed: the desk holds what it held, or has the image with which the session began, or
 -- none.
@@ -93,18 +94,18 @@ abbrev pub RunsMayClose : Type 0
 RunsMayClose =
     (seed : List ℕ) (careful : Bool) (seen : Seen) (answer : Status)
     → Holds seed careful seen answer
-    → IsTrue seen.desk.tells → ClosedAs seed seen ⊎ NoneClosed (held_in seen.desk)
+    → IsTrue seen.desk.tells → ClosedAs seed seen ⊎ NoneClosed (image_met seen.desk)
 
 -- A careful run that ended with 5 or 8 kept the image: where its session closed, the desk has the
 -- image that the session left, and so no file is lost of which it was said that it is stored.
 abbrev pub IsKeptAs : (seed : List ℕ) (seen : Seen) → Type 0
-IsKeptAs seed seen = (c : ClosedAs seed seen) × HasImage seen.desk.after.held c.last
+IsKeptAs seed seen = (c : ClosedAs seed seen) × HasImage seen.desk.after.held.now c.last
 
 abbrev pub CarefulKeeps : Type 0
 CarefulKeeps =
     (seed : List ℕ) (seen : Seen) (answer : Status) → Holds seed true seen answer
     → (answer ≡ status.SinkFault) ⊎ (answer ≡ status.RoomFault) → IsTrue seen.desk.tells
-    → IsKeptAs seed seen ⊎ NoneClosed (held_in seen.desk)
+    → IsKeptAs seed seen ⊎ NoneClosed (image_met seen.desk)
 
 -- the desk has an image to which sessions and rechecks lead from this one
 abbrev pub HasLater : Contents → Option (List ℕ) → Type 0
@@ -115,8 +116,8 @@ abbrev pub RunsGoLater : Type 0
 RunsGoLater =
     (seed : List ℕ) (careful : Bool) (seen : Seen) (answer : Status)
     → Holds seed careful seen answer
-    → IsTrue seen.desk.tells → (from : Contents) → HasLater from seen.desk.before.held
-    → HasLater from seen.desk.after.held ⊎ (seen.desk.after.held ≡ None)
+    → IsTrue seen.desk.tells → (from : Contents) → HasLater from seen.desk.before.held.now
+    → HasLater from seen.desk.after.held.now ⊎ (seen.desk.after.held.now ≡ None)
 
 -- A RECHECK
 
@@ -134,7 +135,7 @@ RechecksGoOn =
 abbrev pub RunsGoOn : Type 0
 RunsGoOn =
     (last : Contents) (held : Option (List ℕ)) (read : Image) → HasImage held last
-    → HoldsImage held read → Begins last (begun (contents read))
+    → HoldsImage held read → BeginsFrom last (begun (contents read))
 
 -- Where the desk had an image and was rechecked, the next run begins with what became of it.
 abbrev pub RechecksBegin : Type 0
@@ -148,18 +149,18 @@ RechecksBegin =
 -- From a desk that has no image, by runs of the program and rechecks in any order, the desk came to
 -- hold this. Each was over what the one before left, whatever each run was asked for and however
 -- each ended.
-pub data Came : Option (List ℕ) → Type 0 where
-  Bare : Came None
+pub data CameTo : Option (List ℕ) → Type 0 where
+  Bare : CameTo None
   Next : (words : List Text) (drawn : List ℕ) (seen : Seen) (answer : Status)
-      → Came seen.desk.before.held → Runs words drawn seen answer → IsTrue seen.desk.tells
-      → Came seen.desk.after.held
-  Recheck : (desk : Transition (Option (List ℕ))) (answer : Rechecked) → Came desk.before
-      → Rechecks desk answer → Came desk.after
+      → CameTo seen.desk.before.held.now → RunsProgram words drawn seen answer → IsTrue seen.desk.tells
+      → CameTo seen.desk.after.held.now
+  Recheck : (desk : Transition (Option (List ℕ))) (answer : Rechecked) → CameTo desk.before
+      → Rechecks desk answer → CameTo desk.after
 
 -- It has no image, or one to which sessions and rechecks lead from that of a new archive.
 abbrev pub DesksStayGood : Type 0
 DesksStayGood =
-    (held : Option (List ℕ)) → Came held
+    (held : Option (List ℕ)) → CameTo held
     → (held ≡ None) ⊎ ((rack : Rack) × HasLater (empty_contents rack) held)
 
 -- Where the desk has such an image, no run with the words of a session says that the desk holds
@@ -167,6 +168,6 @@ DesksStayGood =
 abbrev pub NeverRefused : Type 0
 NeverRefused =
     (words : List Text) (drawn : List ℕ) (seen : Seen) (answer : Status)
-    → Runs words drawn seen answer → IsTrue seen.desk.tells
-    → (left : Contents) → HasImage seen.desk.before.held left
+    → RunsProgram words drawn seen answer → IsTrue seen.desk.tells
+    → (left : Contents) → HasImage seen.desk.before.held.now left
     → (run : Run) → SpellTask words (task.Run run) → answer ≢ status.ImageRefused

@@ -1,7 +1,8 @@
 -- The stretches of a job's key stream that blind its relays.
-use Rattle.std.specs.Prelude.{◌≡◌, ◌<◌, ◌≤◌, ◌+◌, ◌*◌, ◌^◌, ℕ, Bool, List, Option, Some, length}
+use Rattle.std.specs.Prelude.{◌≡◌, ◌<◌, ◌≤◌, ◌+◌, ◌*◌, ◌^◌, ℕ, Bool, List, Some, length}
 use Rattle.std.specs.Prelude.{slice_get}
 use Rattle.pot_outside.specs.Accounts.{Content, Transition}
+use Rattle.pot_outside.specs.Desks.{Images}
 use Rattle.pot_outside.specs.Rooms.{RoomState}
 use Rattle.pot_pads.specs.Pads.{bytes_from, stream}
 use Rattle.pot_script.specs.declared.grouping.Step.{Step}
@@ -29,7 +30,7 @@ abbrev pub BlindsOfRun : Type 0
 BlindsOfRun =
     (seed : List ℕ) (careful : Bool) (first : Contents) (steps : List Step)
     (room : Transition RoomState) (sink : Transition (List ℕ))
-    (desk : Transition (Content (Option (List ℕ)))) (answer : Status)
+    (desk : Transition (Content Images)) (answer : Status)
     → IsImage first → (c : IsClosed seed careful first steps room sink desk answer)
     → (job : ℕ) → 0 < job
     → (its : ℕ → List (List ℕ)) × HaveBlinds c.leaves.groups job its

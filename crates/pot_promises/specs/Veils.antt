@@ -54,8 +54,8 @@ pub record FitsToo (coalition : List Spot) (s : Split) (hidden : ℕ → ℕ) (p
 
 -- Every other file of that length fits, wherever the coalition is veiled, under random bytes that
 -- the files, the places and the first random bytes name.
-abbrev pub AllFit : Split → List Placed → List ℕ → List ℕ → Type 0
-AllFit s placed file random =
+abbrev pub EachOtherFits : Split → List Placed → List ℕ → List ℕ → Type 0
+EachOtherFits s placed file random =
     (coalition : List Spot) (hidden : ℕ → ℕ) (other : List ℕ)
     → IsVeiledSplit coalition s (pieces_of (length file)) hidden → AreBytes other
     → length other ≡ length file
@@ -79,5 +79,5 @@ StaysVeiled =
     → (name file of : List ℕ) (pieces shards : ℕ)
     → IsAnswered first.rack ss rs p i (commands.Store name file) (replies.Stored of pieces shards)
     → (its : HasStored seed first (job_at ss p i) name file pieces shards session.done)
-    × AllFit (places_of (current_of its.kept)) its.placed file
+    × EachOtherFits (places_of (current_of its.kept)) its.placed file
     (random_of seed first (job_at ss p i) file)

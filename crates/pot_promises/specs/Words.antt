@@ -3,7 +3,8 @@
 use Rattle.std.specs.Prelude.{◌≡◌, ◌⊎◌, ◌<◌, ◌≤◌, ◌-◌, ◌^◌, ℕ, Bool, true, false, IsTrue, List}
 use Rattle.std.specs.Prelude.{Option, Some, None, IsSome, Ok, Contains, codes, length, unwrap_or}
 use Rattle.pot_bytes.specs.declared.rack.Rack.{Rack}
-use Rattle.pot_outside.specs.Accounts.{Transition, held_in}
+use Rattle.pot_outside.specs.Accounts.{Transition}
+use Rattle.pot_outside.specs.Desks.{image_met}
 use Rattle.pot_outside.specs.Rooms.{RoomState}
 use Rattle.pot_options.specs.Options.{Text}
 use Rattle.pot_words.specs.Tasks.{SpellTask}
@@ -22,14 +23,14 @@ use Rattle.pot_session.specs.declared.ending.status.Status.{Status}
 use Rattle.pot_session.specs.declared.ending.status.Status.TheVariants as status
 use Rattle.pot_session.specs.declared.ending.stop.Stop.{Stop}
 use Rattle.pot_session.specs.declared.ending.stop.Stop.TheVariants as stop
-use Rattle.pot_session.specs.Audits.{PutsAll, are_of, loose_of, spots_of}
-use Rattle.pot_session.specs.Calls.{Runs}
+use Rattle.pot_session.specs.Audits.{PutsWholeAudit, are_of, loose_of, spots_of}
+use Rattle.pot_session.specs.Calls.{RunsProgram}
 use Rattle.pot_session.specs.Desks.{HoldsImage, RefusesBytes}
 use Rattle.pot_session.specs.Drills.{ArePair, IsNoPair, exposed_text, random_of, report_text}
 use Rattle.pot_session.specs.Generating.{IsGenerated, is_answered, summary}
 use Rattle.pot_session.specs.Listing.{has_partial, listing}
 use Rattle.pot_session.specs.Making.{empty_contents}
-use Rattle.pot_session.specs.Recovering.{GiveObjects, GiveTooMany, IsHeldIn}
+use Rattle.pot_session.specs.Recovering.{GiveObjects, GiveTooMany, IsHeldIn, most_chains}
 use Rattle.pot_session.specs.Runs.{Seen}
 use Rattle.pot_session.specs.Stops.{stop_text}
 use Rattle.pot_session.specs.Tasks.{AsksNothing}
@@ -70,8 +71,8 @@ pub record DrillAnswered (d : Drill) (seed : List ℕ) (source sink : Transition
       → (answer ≡ status.ScriptRefused) × Wrote sink (stop_text (stop.BadLine 0))
 
 -- no archive of these counted a loss, and no count stands at its last value
-abbrev pub NoneLost : ℕ → Transition RoomState → Type 0
-NoneLost archives room =
+abbrev pub NoArchiveLost : ℕ → Transition RoomState → Type 0
+NoArchiveLost archives room =
     (n : ℕ) → n < archives
     → ((room.after.means n).losses ≡ (room.before.means n).losses)
     × ((room.after.means n).losses < 2 ^ 64 - 1)
@@ -89,10 +90,12 @@ pub record AreAllHeld (archives stripes : ℕ) (room : RoomState) (blocks : List
 pub record RecoverAnswered (r : Recover) (room : Transition RoomState)
     (sink : Transition (List ℕ)) (answer : Status) : Type 0 where
   pub blocks : List (List ℕ)
-  pub held : NoneLost r.archives room → AreAllHeld r.archives r.stripes room.before blocks
-  pub is : ((objects : List (List ℕ)) × GiveObjects r.way blocks r.blur objects
+  pub held : NoArchiveLost r.archives room → AreAllHeld r.archives r.stripes room.before blocks
+  pub is : ((objects : List (List ℕ))
+      × GiveObjects (most_chains r (length blocks)) r.way blocks r.blur objects
       × (answer ≡ told_status (has_partial objects)) × Wrote sink (listing objects))
-      ⊎ ((chains : ℕ) × (choices : ℕ) × GiveTooMany r.way blocks r.blur (Wide chains choices)
+      ⊎ ((chains : ℕ) × (choices : ℕ)
+      × GiveTooMany (most_chains r (length blocks)) r.way blocks r.blur (Wide chains choices)
       × (answer ≡ status.TooWide) × Wrote sink (stop_text stop.TooWide))
 
 -- `audit`: a desk without an image and bytes that are none are refused; so are words that name a
@@ -109,7 +112,7 @@ pub record AuditAnswered (a : Audit) (desk : Transition (Option (List ℕ)))
       → (answer ≡ status.WordsRefused) × Wrote sink (stop_text stop.Words)
   pub told : (i : Image) → HoldsImage desk.before i → are_of i.rack a ≡ true
       → (found : Bool)
-      × PutsAll sink i.rack (spots_of a) i.records.items (loose_of a i) (Ok found)
+      × PutsWholeAudit sink i.rack (spots_of a) i.records.items (loose_of a i) (Ok found)
       × (answer ≡ told_status found)
 
 -- `generate`: the session of the script of the number was held, and its summary is written; the
@@ -126,7 +129,7 @@ pub record WordsAnswered (words : List Text) (drawn : List ℕ) (seen : Seen) (a
     : Type 0 where
   pub init : (given : Rack) → SpellTask words (task.Init given) → IsTrue seen.desk.tells
       → (rack : Rack) × SpellTask words (task.Init rack)
-      × InitAnswered rack (held_in seen.desk) seen.sink answer
+      × InitAnswered rack (image_met seen.desk) seen.sink answer
   pub drill : (given : Drill) → SpellTask words (task.Drill given) → IsTrue seen.source.tells
       → (d : Drill) × SpellTask words (task.Drill d)
       × DrillAnswered d (unwrap_or d.seed drawn) seen.source seen.sink answer
@@ -136,7 +139,7 @@ pub record WordsAnswered (words : List Text) (drawn : List ℕ) (seen : Seen) (a
       × RecoverAnswered r seen.room seen.sink answer
   pub audit : (given : Audit) → SpellTask words (task.Audit given) → IsTrue seen.desk.tells
       → (a : Audit) × SpellTask words (task.Audit a)
-      × AuditAnswered a (held_in seen.desk) seen.sink answer
+      × AuditAnswered a (image_met seen.desk) seen.sink answer
   pub generate : (given : ℕ) → SpellTask words (task.Generate given)
       → (number : ℕ) × SpellTask words (task.Generate number)
       × GenerateAnswered number seen.sink answer
@@ -148,5 +151,5 @@ pub record WordsAnswered (words : List Text) (drawn : List ℕ) (seen : Seen) (a
 abbrev pub WordsAreAnswered : Type 0
 WordsAreAnswered =
     (words : List Text) (drawn : List ℕ) (seen : Seen) (answer : Status)
-    → Runs words drawn seen answer → (IsFault answer → ⊥) → (answer ≡ status.NoMemory → ⊥)
+    → RunsProgram words drawn seen answer → (IsFault answer → ⊥) → (answer ≡ status.NoMemory → ⊥)
     → WordsAnswered words drawn seen answer

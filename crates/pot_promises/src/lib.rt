@@ -26,9 +26,9 @@
 //!    session and the job gives of it; and who sees fewer of them than are needed, of some fragment
 //!    of each piece, sees what every other file of that length gives as well (`veil_laws`).
 //! 5. No later fetch of its name is odd by blocks of which, with the file's own, no two different
-//!    ones have one digest, in its session or in a later one, until the name is renewed (`odd_laws`).
-//!    So it is of a fetch in the same batch (`together`). So it is of one that found the split of a
-//!    renewal, with the blocks of that split (`renewed`, `renewed_later`).
+//!    ones have one digest, in its session or in a later one, until the name is renewed
+//!    (`odd_laws`). So it is of a fetch in the same batch (`together`). So it is of one that found
+//!    the split of a renewal, with the blocks of that split (`renewed`, `renewed_later`).
 //! 6. A reply `fault` of a column comes only where an archive of that column counted a fault in the
 //!    session (`fault_laws`).
 //! 7. Where no archive lost a block in the session, a fetch or a renewal is answered `lost` only
@@ -64,7 +64,7 @@ ghost use Rattle.pot_promises.specs.Lost.{LostIsFew};
 ghost use Rattle.pot_promises.specs.Odds.{NeverOdd, NeverOddLater, OddReads};
 ghost use Rattle.pot_promises.specs.Openings.{OpeningsAreTrue};
 ghost use Rattle.pot_promises.specs.Promises.{GivesBack, GivesBackLater};
-ghost use Rattle.pot_promises.specs.Remaining.{BlocksRemain, OlderDeskFinds, ServedRemain};
+ghost use Rattle.pot_promises.specs.Remaining.{BlocksRemainInRoom, OlderDeskFinds, ServedRemain};
 ghost use Rattle.pot_promises.specs.Renewed.{NeverOddRenewed, NeverOddRenewedLater};
 ghost use Rattle.pot_promises.specs.Renewed.{NeverOddTogether, RenewedShows};
 ghost use Rattle.pot_promises.specs.Runs.{CarefulKeeps, DesksStayGood, NeverRefused, RechecksBegin};
@@ -110,7 +110,7 @@ pub fn fault_laws()
 /// hold still. It does nothing.
 pub fn frame_laws()
     ensures run { FrameOfRun }
-    ensures remain { BlocksRemain }
+    ensures remain { BlocksRemainInRoom }
     ensures served { ServedRemain }
     ensures older { OlderDeskFinds }
 {}

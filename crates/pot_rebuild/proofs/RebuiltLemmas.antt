@@ -9,16 +9,16 @@ use Rattle.pot_bytes.specs.Product.{byte_product}
 use Rattle.pot_bytes.specs.Sums.{zero_block}
 use Rattle.pot_bytes.specs.Totals.{total}
 use Rattle.pot_machine.specs.declared.slot.SlotState.TheVariants.{Void, Live}
-use Rattle.pot_steps.specs.Decides.{Computed, AreRead}
+use Rattle.pot_steps.specs.Decides.{Computed, IsStripeRead}
 use Rattle.pot_steps.specs.Flight.{weight, p_times, q_times}
-use Rattle.pot_steps.specs.Laws.{AreApart, Fits}
+use Rattle.pot_steps.specs.Laws.{AreDistinctColumns, FitsColumns}
 use Rattle.pot_steps.specs.Stripe.{Stripe, Filling}
 use Rattle.pot_bytes.specs.Sums.{xor}
 use Rattle.pot_bytes.specs.Weighted.{scaled}
 use Rattle.pot_bytes.proofs.WeightedLemmas.{get_or-xor, get_or-scaled}
 use Rattle.pot_steps.proofs.BlockLemmas.{get_or-zero_block, IsBlock-xor, IsBlock-scaled}
 use Rattle.pot_steps.proofs.Decides.{filling_computed}
-use Rattle.pot_rebuild.specs.Rebuilding.{Adds, IsRebuilt, column_of, weight_by}
+use Rattle.pot_rebuild.specs.Rebuilding.{AddsWeighted, IsRebuilt, column_of, weight_by}
 
 -- the stripe of which each slot is sound and has the block of a filling
 sound_stripe : (ℕ → List ℕ) → Stripe
@@ -44,13 +44,13 @@ is_filling data_columns parity s f h = record {
 
 -- what a filling has was read of it
 is_read : (data_columns parity t u : ℕ) (s : Stripe) (f base : ℕ → List ℕ) → Filling data_columns parity s f
-    → ((c : ℕ) → c < data_columns + parity → c ≢ t → c ≢ u → f c ≡ base c) → AreRead data_columns parity (sound_stripe f) t u base
+    → ((c : ℕ) → c < data_columns + parity → c ≢ t → c ≢ u → f c ≡ base c) → IsStripeRead data_columns parity (sound_stripe f) t u base
 unfolding sound_stripe
 is_read data_columns parity t u s f base h same c lt nt nu =
     let e : f c ≡ base c = same c lt nt nu in
     (subst IsBlock e (h.block c lt), inl (record { digest = digest_of (f c); live = refl; held = ap Some e; right = ap digest_of (sym e) }))
 
-pub is_rebuilt : (data_columns parity t u : ℕ) (blocks : List (List ℕ)) (x : List ℕ) → Fits data_columns parity → AreApart data_columns parity t u
+pub is_rebuilt : (data_columns parity t u : ℕ) (blocks : List (List ℕ)) (x : List ℕ) → FitsColumns data_columns parity → AreDistinctColumns data_columns parity t u
     → Computed data_columns parity t u (column_of blocks) x → IsRebuilt data_columns parity t u blocks x
 is_rebuilt data_columns parity t u blocks x fits apart computed s f h same =
     filling_computed data_columns parity fits.few fits.one fits.small (sound_stripe f) t u (column_of blocks) apart.target apart.other apart.apart apart.single
@@ -58,7 +58,7 @@ is_rebuilt data_columns parity t u blocks x fits apart computed s f h same =
 
 -- a block that is folded in
 pub added : (data_columns p q c w : ℕ) (before after block : List ℕ) → IsBlock before → IsBlock block → w ≡ weight_by data_columns p q c
-    → after ≡ xor before (scaled w block) → Adds data_columns p q c before after block
+    → after ≡ xor before (scaled w block) → AddsWeighted data_columns p q c before after block
 added data_columns p q c w before after block hb hk ew e =
     let hs : IsBlock (scaled w block) = IsBlock-scaled w block hk in
     record {
@@ -89,7 +89,7 @@ summed_target data_columns t u blocks n sum e h = record {
     left_out c t x e = grind (arith, nat_tests)
 
 pub summed_more : (data_columns t u : ℕ) (blocks : List (List ℕ)) (n : ℕ) (sum now block : List ℕ) (p q : ℕ) → p ≡ p_times data_columns t u → q ≡ q_times data_columns t u
-    → n ≢ t → block ≡ column_of blocks n → Adds data_columns p q n sum now block
+    → n ≢ t → block ≡ column_of blocks n → AddsWeighted data_columns p q n sum now block
     → IsSummed data_columns t u blocks n sum → IsSummed data_columns t u blocks (suc n) now
 unfolding total weight
 summed_more data_columns t u blocks n sum now block p q ep eq ne is adds h = record {

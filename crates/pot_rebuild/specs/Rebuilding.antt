@@ -24,7 +24,7 @@ weight_by data_columns p q c =
     bit_xor (byte_product p (p_weight data_columns c)) (byte_product q (q_weight data_columns c))
 
 -- the block of a column came to a sum, times the weight of the column
-pub record Adds (data_columns p q c : ℕ) (before after block : List ℕ) : Type 0 where
+pub record AddsWeighted (data_columns p q c : ℕ) (before after block : List ℕ) : Type 0 where
   pub whole : IsBlock after
   pub bytes : (k : ℕ)
       → slice_index after k

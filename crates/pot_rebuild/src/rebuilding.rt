@@ -3,8 +3,8 @@ ghost use Rattle.std.specs.Prelude.{◌≡◌, ◌+◌, length};
 ghost use Rattle.pot_bytes.specs.Lists.{IsBlock};
 ghost use Rattle.pot_steps.specs.Decides.{Computed};
 ghost use Rattle.pot_steps.specs.Equations.{p_weight};
-ghost use Rattle.pot_steps.specs.Laws.{AreApart, Fits};
-ghost use Rattle.pot_rebuild.specs.Rebuilding.{Adds, IsRebuilt, column_of};
+ghost use Rattle.pot_steps.specs.Laws.{AreDistinctColumns, FitsColumns};
+ghost use Rattle.pot_rebuild.specs.Rebuilding.{AddsWeighted, IsRebuilt, column_of};
 
 use pot_bytes::{Block, block_law, fold_weighted};
 use pot_gf::mul;
@@ -22,8 +22,8 @@ struct Times {
 /// A slot that holds none counts as zeros. With one parity column `out` is the column behind it,
 /// which there is not.
 pub fn rebuilt(data_columns: u8, parity: u8, target: u8, out: u8, blocks: &[Block]) -> Block
-    requires fits { Fits data_columns parity }
-    requires apart { AreApart data_columns parity target out }
+    requires fits { FitsColumns data_columns parity }
+    requires apart { AreDistinctColumns data_columns parity target out }
     requires all { length blocks.now ≡ data_columns + parity }
     ensures computed { Computed data_columns parity target out (column_of blocks.now) result }
 
@@ -50,7 +50,7 @@ pub fn rebuilt(data_columns: u8, parity: u8, target: u8, out: u8, blocks: &[Bloc
 // Adds the block of a column times its weight.
 fn add(sum: &mut Block, times: Times, data_columns: u8, column: u8, block: &Block)
     requires { IsBlock sum.old }
-    ensures { Adds data_columns times.first times.second column sum.old sum.new block.now }
+    ensures { AddsWeighted data_columns times.first times.second column sum.old sum.new block.now }
 {
     let weight = mul(times.first, p_weight(data_columns, column))
         ^ mul(times.second, q_weight(data_columns, column));

@@ -1,14 +1,15 @@
--- The image in which all slots are Live that are not Void: it may be written, and keeps the rules of images.
+-- The image in which all slots are Live that are not Void: it may be written, and keeps the rules
+-- of images.
 use Rattle.std.proofs.Common.{◌<◌, ◌^◌, List, Result, Ok, Err, OnOk, length, get_or, sym, subst, arith, All}
 use Rattle.std.proofs.lemmas.List.{get_or-map, length-map}
 use Rattle.pot_machine.specs.declared.entry.Entry.{Entry}
 use Rattle.pot_image.specs.declared.image.Image.{Image}
 use Rattle.pot_image.specs.Images.{Contents, contents}
 use Rattle.pot_image.specs.Spelling.{IsCountable}
-use Rattle.pot_image.specs.Rules.{FitsTogether, IsImage, IsWhole}
+use Rattle.pot_image.specs.Rules.{FitsTogether, IsImage, IsImageWhole}
 use Rattle.pot_recheck.specs.declared.listing.Unsound.{Unsound}
 use Rattle.pot_recheck.specs.Finding.{IsFound}
-use Rattle.pot_recheck.specs.Rechecking.{WasRead}
+use Rattle.pot_recheck.specs.Rechecking.{ImageWasRead}
 use Rattle.pot_recheck.proofs.ImageLemmas.{still_together}
 use Rattle.pot_recheck.proofs.ReadLemmas.{fits_of, read_logs}
 
@@ -23,7 +24,7 @@ countable i records logs index = record {
 }
 
 -- an image of which some slots are Live that was read may be written
-pub found_countable : (found : List Unsound) (i j : Image) → WasRead i → FitsTogether (contents i) → IsFound found (contents i) (contents j) → IsCountable j
+pub found_countable : (found : List Unsound) (i j : Image) → ImageWasRead i → FitsTogether (contents i) → IsFound found (contents i) (contents j) → IsCountable j
 found_countable found i j read fits is =
     let logs = read_logs read.0 i read.1 fits in
     let few = fits.records.read.few in
@@ -34,11 +35,11 @@ found_countable found i j read fits is =
     (subst (λ (v : Contents). length v.index_log < 2 ^ 32) (sym is.rest) (omega (arith, index)))
 
 -- and it keeps the rules of images, once its bytes were made
-pub found_image : (found : List Unsound) (i j : Image) → WasRead i → FitsTogether (contents i) → IsFound found (contents i) (contents j) → IsWhole (contents j) → IsImage (contents j)
+pub found_image : (found : List Unsound) (i j : Image) → ImageWasRead i → FitsTogether (contents i) → IsFound found (contents i) (contents j) → IsImageWhole (contents j) → IsImage (contents j)
 found_image found i j read fits is made =
     let v = contents i in let us = (contents j).tables in
     let logs = read_logs read.0 i read.1 fits in
-    let whole = subst IsWhole is.rest made in
+    let whole = subst IsImageWhole is.rest made in
     subst IsImage (sym is.rest) (record {
       session = whole.values.session;
       together = subst FitsTogether is.rest (still_together found v (contents j) fits is);

@@ -1,5 +1,5 @@
 -- Where all slots are Live that are not Void, none is Lost or Broken.
-use Rattle.std.proofs.Common.{◌≡◌, ◌<◌, ◌≤◌, ◌⊎◌, inl, inr, ℕ, Bool, true, false, IsTrue, Option, Some, None, List, [], ◌∷◌, length, map, get_or, refl, sym, ap, subst, ◌∙◌, arith}
+use Rattle.std.proofs.Common.{◌≡◌, ◌<◌, ◌≤◌, ◌⊎◌, inl, inr, ℕ, false, Option, Some, None, List, [], ◌∷◌, length, map, get_or, refl, sym, ap, subst, ◌∙◌, arith}
 use Rattle.std.specs.Prelude.{slice_get, option_map}
 use Rattle.std.specs.List.{Contains}
 use Rattle.std.proofs.lemmas.Bool.{cases_lt}
@@ -11,7 +11,7 @@ use Rattle.pot_machine.specs.Slot.{is_unsound, live_of}
 use Rattle.pot_machine.specs.Table.{Table, slot_at}
 use Rattle.pot_image.specs.Images.{Contents}
 use Rattle.pot_recheck.specs.declared.listing.Unsound.{Unsound}
-use Rattle.pot_recheck.specs.Listing.{IsUnsound, in_image}
+use Rattle.pot_recheck.specs.Listing.{in_image}
 use Rattle.pot_recheck.specs.Rechecking.{live_table, all_live}
 use Rattle.pot_recheck.proofs.ListLemmas.{listed_is}
 

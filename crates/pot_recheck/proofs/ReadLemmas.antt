@@ -16,8 +16,8 @@ use Rattle.pot_image.specs.Heads.{head}
 use Rattle.pot_image.specs.Tables.{tables}
 use Rattle.pot_image.specs.Records.{records}
 use Rattle.pot_image.specs.Logs as logs
-use Rattle.pot_image.specs.Images.{Contents, contents, image, Answered, Trailed, Measured, Numbered, Marked, AnswersImage}
-use Rattle.pot_image.specs.Rules.{IsAt, IsMove, FitsEntry, FitsTogether, IsWholeEntry}
+use Rattle.pot_image.specs.Images.{Contents, contents, image, AnsweredFields, Trailed, Measured, Numbered, Marked, AnswersImage}
+use Rattle.pot_image.specs.Rules.{IsSpotOf, IsMove, FitsEntry, FitsTogether, IsWholeEntry}
 use Rattle.pot_image.proofs.Once.{read_of}
 use Rattle.pot_image.proofs.Steps.{holds_of, between_of}
 use Rattle.pot_image.proofs.Inverse.{parts, done_is, several_keep}
@@ -25,24 +25,24 @@ use Rattle.pot_image.proofs.RecordRules.{one_longer}
 
 -- what an entry of a group's log names, the rack has
 abbrev pub InRack : Rack → Entry → Type 0
-InRack rack (Put job s c d p kept) = IsAt rack s c
+InRack rack (Put job s c d p kept) = IsSpotOf rack s c
 InRack rack (Skip job s) = s < rack.stripes
-InRack rack (Seen job s c) = IsAt rack s c
-InRack rack (Gone job s c) = IsAt rack s c
-InRack rack (Broke job s c) = IsAt rack s c
-InRack rack (Fault job s c) = IsAt rack s c
-InRack rack (Begin job s c) = IsAt rack s c
-InRack rack (Hop job s c) = IsAt rack s c
-InRack rack (Mended job s c) = IsAt rack s c
-InRack rack (GaveUp job s c other) = IsAt rack s c × (other < rack.columns + rack.parity)
-InRack rack (Oddly job s c found) = IsAt rack s c
-InRack rack (Stuck job s c other) = IsAt rack s c × (other < rack.columns + rack.parity)
+InRack rack (Seen job s c) = IsSpotOf rack s c
+InRack rack (Gone job s c) = IsSpotOf rack s c
+InRack rack (Broke job s c) = IsSpotOf rack s c
+InRack rack (Fault job s c) = IsSpotOf rack s c
+InRack rack (Begin job s c) = IsSpotOf rack s c
+InRack rack (Hop job s c) = IsSpotOf rack s c
+InRack rack (Mended job s c) = IsSpotOf rack s c
+InRack rack (GaveUp job s c other) = IsSpotOf rack s c × (other < rack.columns + rack.parity)
+InRack rack (Oddly job s c found) = IsSpotOf rack s c
+InRack rack (Stuck job s c other) = IsSpotOf rack s c × (other < rack.columns + rack.parity)
 InRack rack (MoveBegin job c to) = IsMove rack c to
-InRack rack (Moved job s c copied) = IsAt rack s c
+InRack rack (Moved job s c copied) = IsSpotOf rack s c
 InRack rack (MoveEnd job c) = c < rack.columns + rack.parity
 InRack rack (Swapped job c to) = IsMove rack c to
 InRack rack (Counted job) = Unit {0}
-InRack rack (Put2 job s c d p q kept kept2) = IsAt rack s c
+InRack rack (Put2 job s c d p q kept kept2) = IsSpotOf rack s c
 
 -- with a job and digests that are whole it fits
 pub fits_of : (rack : Rack) (e : Entry) → IsWholeEntry e → InRack rack e → FitsEntry rack e
@@ -87,15 +87,15 @@ module _ (rack : Rack) (rules : IsRack rack) where
   archive_in : (bytes rest : List ℕ) (n : ℕ) → reading logs.archive bytes ≡ Ok (n, rest) → n ≤ 511
   archive_in bytes rest n e = leb-true _ _ (holds_of 4 (at_most 511) bytes rest n e)
 
-  place_in : (bytes rest : List ℕ) (p : ℕ × ℕ) → reading (logs.place rack) bytes ≡ Ok (p, rest) → IsAt rack p.0 p.1
+  place_in : (bytes rest : List ℕ) (p : ℕ × ℕ) → reading (logs.place rack) bytes ≡ Ok (p, rest) → IsSpotOf rack p.0 p.1
   place_in bytes rest p e =
       let a = parts (logs.stripe rack) (λ s. logs.column rack >>= λ c. done (s, c)) bytes p rest e in
       let b = parts (logs.column rack) (λ c. done (a.value, c)) a.behind p rest a.second in
       let same = done_is (a.value, b.value) p b.behind rest b.second in
-      subst (λ (q : ℕ × ℕ). IsAt rack q.0 q.1) same.0 (stripe_in bytes a.behind a.value a.first, column_in a.behind b.behind b.value b.first)
+      subst (λ (q : ℕ × ℕ). IsSpotOf rack q.0 q.1) same.0 (stripe_in bytes a.behind a.value a.first, column_in a.behind b.behind b.value b.first)
 
   module _ (x : Entry) (bytes rest : List ℕ) where
-    of_put_in : (make : ℕ → ℕ → Digest → Digest → Bool → Entry) → ((s c : ℕ) (d p : Digest) (kept : Bool) → IsAt rack s c → InRack rack (make s c d p kept)) → reading (logs.of_put rack make) bytes ≡ Ok (x, rest) → InRack rack x
+    of_put_in : (make : ℕ → ℕ → Digest → Digest → Bool → Entry) → ((s c : ℕ) (d p : Digest) (kept : Bool) → IsSpotOf rack s c → InRack rack (make s c d p kept)) → reading (logs.of_put rack make) bytes ≡ Ok (x, rest) → InRack rack x
     of_put_in make is e =
         let a = parts (logs.place rack) (λ at. digest >>= λ d. digest >>= λ p. flag >>= λ kept. done (make at.0 at.1 d p kept)) bytes x rest e in
         let b = parts digest (λ d. digest >>= λ p. flag >>= λ kept. done (make a.value.0 a.value.1 d p kept)) a.behind x rest a.second in
@@ -103,7 +103,7 @@ module _ (rack : Rack) (rules : IsRack rack) where
         let d = parts flag (λ kept. done (make a.value.0 a.value.1 b.value c.value kept)) c.behind x rest c.second in
         subst (InRack rack) (done_is _ x d.behind rest d.second).0 (is a.value.0 a.value.1 b.value c.value d.value (place_in bytes a.behind a.value a.first))
 
-    of_two_puts_in : (make : ℕ → ℕ → Digest → Digest → Digest → Bool → Bool → Entry) → ((s c : ℕ) (d p q : Digest) (kept kept2 : Bool) → IsAt rack s c → InRack rack (make s c d p q kept kept2)) → reading (logs.of_two_puts rack make) bytes ≡ Ok (x, rest) → InRack rack x
+    of_two_puts_in : (make : ℕ → ℕ → Digest → Digest → Digest → Bool → Bool → Entry) → ((s c : ℕ) (d p q : Digest) (kept kept2 : Bool) → IsSpotOf rack s c → InRack rack (make s c d p q kept kept2)) → reading (logs.of_two_puts rack make) bytes ≡ Ok (x, rest) → InRack rack x
     of_two_puts_in make is e =
         let a = parts (logs.place rack) (λ at. digest >>= λ d. digest >>= λ p. digest >>= λ q. flag >>= λ kept. flag >>= λ kept2. done (make at.0 at.1 d p q kept kept2)) bytes x rest e in
         let b = parts digest (λ d. digest >>= λ p. digest >>= λ q. flag >>= λ kept. flag >>= λ kept2. done (make a.value.0 a.value.1 d p q kept kept2)) a.behind x rest a.second in
@@ -123,24 +123,24 @@ module _ (rack : Rack) (rules : IsRack rack) where
         let a = parts (logs.column rack) (λ c. done (make c)) bytes x rest e in
         subst (InRack rack) (done_is _ x a.behind rest a.second).0 (is a.value (column_in bytes a.behind a.value a.first))
 
-    of_place_in : (make : ℕ → ℕ → Entry) → ((s c : ℕ) → IsAt rack s c → InRack rack (make s c)) → reading (logs.of_place rack make) bytes ≡ Ok (x, rest) → InRack rack x
+    of_place_in : (make : ℕ → ℕ → Entry) → ((s c : ℕ) → IsSpotOf rack s c → InRack rack (make s c)) → reading (logs.of_place rack make) bytes ≡ Ok (x, rest) → InRack rack x
     of_place_in make is e =
         let a = parts (logs.place rack) (λ p. done (make p.0 p.1)) bytes x rest e in
         subst (InRack rack) (done_is _ x a.behind rest a.second).0 (is a.value.0 a.value.1 (place_in bytes a.behind a.value a.first))
 
-    of_two_columns_in : (make : ℕ → ℕ → ℕ → Entry) → ((s c other : ℕ) → IsAt rack s c → other < rack.columns + rack.parity → InRack rack (make s c other)) → reading (logs.of_two_columns rack make) bytes ≡ Ok (x, rest) → InRack rack x
+    of_two_columns_in : (make : ℕ → ℕ → ℕ → Entry) → ((s c other : ℕ) → IsSpotOf rack s c → other < rack.columns + rack.parity → InRack rack (make s c other)) → reading (logs.of_two_columns rack make) bytes ≡ Ok (x, rest) → InRack rack x
     of_two_columns_in make is e =
         let a = parts (logs.place rack) (λ p. logs.column rack >>= λ other. done (make p.0 p.1 other)) bytes x rest e in
         let b = parts (logs.column rack) (λ other. done (make a.value.0 a.value.1 other)) a.behind x rest a.second in
         subst (InRack rack) (done_is _ x b.behind rest b.second).0 (is a.value.0 a.value.1 b.value (place_in bytes a.behind a.value a.first) (column_in a.behind b.behind b.value b.first))
 
-    of_digest_in : (make : ℕ → ℕ → Digest → Entry) → ((s c : ℕ) (d : Digest) → IsAt rack s c → InRack rack (make s c d)) → reading (logs.of_digest rack make) bytes ≡ Ok (x, rest) → InRack rack x
+    of_digest_in : (make : ℕ → ℕ → Digest → Entry) → ((s c : ℕ) (d : Digest) → IsSpotOf rack s c → InRack rack (make s c d)) → reading (logs.of_digest rack make) bytes ≡ Ok (x, rest) → InRack rack x
     of_digest_in make is e =
         let a = parts (logs.place rack) (λ p. digest >>= λ d. done (make p.0 p.1 d)) bytes x rest e in
         let b = parts digest (λ d. done (make a.value.0 a.value.1 d)) a.behind x rest a.second in
         subst (InRack rack) (done_is _ x b.behind rest b.second).0 (is a.value.0 a.value.1 b.value (place_in bytes a.behind a.value a.first))
 
-    of_flag_in : (make : ℕ → ℕ → Bool → Entry) → ((s c : ℕ) (b : Bool) → IsAt rack s c → InRack rack (make s c b)) → reading (logs.of_flag rack make) bytes ≡ Ok (x, rest) → InRack rack x
+    of_flag_in : (make : ℕ → ℕ → Bool → Entry) → ((s c : ℕ) (b : Bool) → IsSpotOf rack s c → InRack rack (make s c b)) → reading (logs.of_flag rack make) bytes ≡ Ok (x, rest) → InRack rack x
     of_flag_in make is e =
         let a = parts (logs.place rack) (λ p. flag >>= λ b. done (make p.0 p.1 b)) bytes x rest e in
         let b = parts flag (λ b. done (make a.value.0 a.value.1 b)) a.behind x rest a.second in
@@ -152,7 +152,7 @@ module _ (rack : Rack) (rules : IsRack rack) where
         let b = parts logs.archive (λ to. done (make a.value to)) a.behind x rest a.second in
         subst (InRack rack) (done_is _ x b.behind rest b.second).0 (is a.value b.value (column_in bytes a.behind a.value a.first, archive_in a.behind b.behind b.value b.first))
 
-    placed_in : (job kind s c : ℕ) → IsAt rack s c → InRack rack (logs.placed kind job s c)
+    placed_in : (job kind s c : ℕ) → IsSpotOf rack s c → InRack rack (logs.placed kind job s c)
     placed_in job kind s c at =
         six (InRack rack) (kind == 3) (kind == 4) (kind == 5) (kind == 6) (kind == 7) (kind == 8) (Seen job s c) (Gone job s c) (Broke job s c) (Fault job s c) (Begin job s c) (Hop job s c) (Mended job s c)
         at at at at at at at
@@ -239,7 +239,7 @@ IsIn (Err e) = Unit {0}
 refused : (r : Result Image ImageFault) (e : ImageFault) → r ≡ Err e → IsIn r
 refused r e q = subst IsIn (sym q) tt
 
-by_fields : (format : _) (body : List ℕ) (r : Result Image ImageFault) → Answered format body r → IsIn r
+by_fields : (format : _) (body : List ℕ) (r : Result Image ImageFault) → AnsweredFields format body r → IsIn r
 by_fields format body (Ok i) a = λ fits. fields_in format body [] (contents i) fits.rack (read_of (image format) body (contents i) a)
 by_fields format body (Err e) a = tt
 

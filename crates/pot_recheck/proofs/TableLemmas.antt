@@ -14,7 +14,7 @@ use Rattle.pot_machine.specs.Rules.{IsTable}
 use Rattle.pot_machine.specs.Making.{table_of}
 use Rattle.pot_machine.proofs.Voids.{voids_kept, cursor_kept}
 use Rattle.pot_machine.proofs.Columns.{columns_kept}
-use Rattle.pot_image.specs.Rules.{HasDigest, IsDigest}
+use Rattle.pot_image.specs.Rules.{HasSlotDigest, IsDigest}
 use Rattle.pot_image.specs.Spelling.{slot_bytes}
 use Rattle.pot_recheck.specs.declared.listing.Unsound.{Unsound}
 use Rattle.pot_recheck.specs.Finding.{AreFoundSlots, IsFoundTable}
@@ -76,27 +76,27 @@ same_size xs ys e = sizes_of xs ∙ ap sizes e ∙ sym (sizes_of ys)
 abbrev Whole : Option Digest → Type 0
 Whole o = IfSome o IsDigest
 
-whole_of : (x : SlotState) → HasDigest x → Whole (digest_in x)
+whole_of : (x : SlotState) → HasSlotDigest x → Whole (digest_in x)
 whole_of Void h = tt
 whole_of (Live d) h = h
 whole_of (Lost d) h = h
 whole_of (Broken d) h = h
 
-has_of : (x : SlotState) → Whole (digest_in x) → HasDigest x
+has_of : (x : SlotState) → Whole (digest_in x) → HasSlotDigest x
 has_of Void h = tt
 has_of (Live d) h = h
 has_of (Lost d) h = h
 has_of (Broken d) h = h
 
-all_whole : (xs : List SlotState) → All HasDigest xs → All Whole (map digest_in xs)
+all_whole : (xs : List SlotState) → All HasSlotDigest xs → All Whole (map digest_in xs)
 all_whole [] all = All-nil Whole
-all_whole (x ∷ xs) all = All-cons Whole (digest_in x) (map digest_in xs) (whole_of x (All-head HasDigest x xs all)) (all_whole xs (All-tail HasDigest x xs all))
+all_whole (x ∷ xs) all = All-cons Whole (digest_in x) (map digest_in xs) (whole_of x (All-head HasSlotDigest x xs all)) (all_whole xs (All-tail HasSlotDigest x xs all))
 
-all_have : (xs : List SlotState) → All Whole (map digest_in xs) → All HasDigest xs
-all_have [] all = All-nil HasDigest
-all_have (x ∷ xs) all = All-cons HasDigest x xs (has_of x (All-head Whole (digest_in x) (map digest_in xs) all)) (all_have xs (All-tail Whole (digest_in x) (map digest_in xs) all))
+all_have : (xs : List SlotState) → All Whole (map digest_in xs) → All HasSlotDigest xs
+all_have [] all = All-nil HasSlotDigest
+all_have (x ∷ xs) all = All-cons HasSlotDigest x xs (has_of x (All-head Whole (digest_in x) (map digest_in xs) all)) (all_have xs (All-tail Whole (digest_in x) (map digest_in xs) all))
 
-pub still_whole : (xs ys : List SlotState) → map digest_in xs ≡ map digest_in ys → All HasDigest ys → All HasDigest xs
+pub still_whole : (xs ys : List SlotState) → map digest_in xs ≡ map digest_in ys → All HasSlotDigest ys → All HasSlotDigest xs
 still_whole xs ys e all = all_have xs (subst (All Whole) (sym e) (all_whole ys all))
 
 -- THE TABLE THAT IS MADE

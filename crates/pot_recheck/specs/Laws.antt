@@ -17,8 +17,8 @@ OfSlots P =
     → s < t.stripes → c < width t → P t u s c
 
 -- no digest changes
-abbrev pub DigestsStay : Type 0
-DigestsStay = OfSlots (λ t u s c. digest_in (slot_at u s c) ≡ digest_in (slot_at t s c))
+abbrev pub DigestsStayFound : Type 0
+DigestsStayFound = OfSlots (λ t u s c. digest_in (slot_at u s c) ≡ digest_in (slot_at t s c))
 
 -- a slot is Void exactly where it was
 abbrev pub VoidsStay : Type 0
@@ -29,12 +29,12 @@ abbrev pub LivesStay : Type 0
 LivesStay = OfSlots (λ t u s c. IsTrue (is_live (slot_at t s c)) → IsTrue (is_live (slot_at u s c)))
 
 -- The list has all slots of the image that are Lost or Broken, and no others.
-abbrev pub ListsAll : Type 0
-ListsAll = (v : Contents) (u : Unsound) → Contains (in_image v) u ↔ IsUnsound v u
+abbrev pub ListsUnsound : Type 0
+ListsUnsound = (v : Contents) (u : Unsound) → Contains (in_image v) u ↔ IsUnsound v u
 
 -- An image that keeps the rules of images keeps them.
-abbrev pub RulesStay : Type 0
-RulesStay = (found : List Unsound) (v w : Contents) → IsFound found v w → IsImage v → IsImage w
+abbrev pub RulesStayFound : Type 0
+RulesStayFound = (found : List Unsound) (v w : Contents) → IsFound found v w → IsImage v → IsImage w
 
 -- What an image comes to is one image.
 abbrev pub FoundOnce : Type 0

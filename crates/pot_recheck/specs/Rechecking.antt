@@ -24,8 +24,8 @@ abbrev pub all_live : Contents → Contents
 all_live v = record v { tables = map live_table v.tables }
 
 -- the image was read from some bytes
-abbrev pub WasRead : Image → Type 0
-WasRead i = (bytes : List ℕ) × AnswersImage bytes (Ok i)
+abbrev pub ImageWasRead : Image → Type 0
+ImageWasRead i = (bytes : List ℕ) × AnswersImage bytes (Ok i)
 
 -- the desk holds bytes that are this image
 abbrev pub HoldsImage : Option (List ℕ) → Image → Type 0
@@ -46,8 +46,8 @@ pub record FindsAll (desk : Transition (Option (List ℕ))) (i : Image)
   pub rules : 0 < length found → IsImage (all_live (contents i))
 
 -- the desk holds bytes that are no image, for this reason, and holds them still
-abbrev pub Refuses : Transition (Option (List ℕ)) → ImageFault → Type 0
-Refuses desk fault =
+abbrev pub RefusesImage : Transition (Option (List ℕ)) → ImageFault → Type 0
+RefusesImage desk fault =
     (bytes : List ℕ) × (desk.before ≡ Some bytes) × AnswersImage bytes (Err fault)
     × (desk.after ≡ desk.before)
 
@@ -61,8 +61,8 @@ FailsAtReplacing desk =
 abbrev pub Rechecks : Transition (Option (List ℕ)) → Rechecked → Type 0
 Rechecks desk (answer.Found found) = (i : Image) × FindsAll desk i found.items
 Rechecks desk answer.NoImage = (desk.before ≡ None) × (desk.after ≡ desk.before)
-Rechecks desk answer.Cut = Refuses desk faults.Cut
-Rechecks desk (answer.Trailer kept computed) = Refuses desk (faults.Trailer kept computed)
-Rechecks desk (answer.Form place) = Refuses desk (faults.Form place)
+Rechecks desk answer.Cut = RefusesImage desk faults.Cut
+Rechecks desk (answer.Trailer kept computed) = RefusesImage desk (faults.Trailer kept computed)
+Rechecks desk (answer.Form place) = RefusesImage desk (faults.Form place)
 Rechecks desk answer.DeskFault = (desk.after ≡ desk.before) ⊎ FailsAtReplacing desk
 Rechecks desk answer.NoMemory = desk.after ≡ desk.before

@@ -1,5 +1,6 @@
 //! What is proved of slots that are found again.
-ghost use Rattle.pot_recheck.specs.Laws.{DigestsStay, VoidsStay, LivesStay, ListsAll, RulesStay};
+ghost use Rattle.pot_recheck.specs.Laws.{DigestsStayFound, VoidsStay, LivesStay, ListsUnsound};
+ghost use Rattle.pot_recheck.specs.Laws.{RulesStayFound};
 ghost use Rattle.pot_recheck.specs.Laws.{FoundOnce, TwiceIsOnce, AllFound, NoneLeft};
 
 /// What is proved of slots that are found again. Digests stay, what is Void stays Void and nothing
@@ -8,11 +9,11 @@ ghost use Rattle.pot_recheck.specs.Laws.{FoundOnce, TwiceIsOnce, AllFound, NoneL
 /// one image, and a second time changes nothing. Where all slots are found again, all are Live that
 /// are not Void, and none is Lost or Broken. It does nothing.
 pub fn recheck_laws()
-    ensures digests { DigestsStay }
+    ensures digests { DigestsStayFound }
     ensures voids { VoidsStay }
     ensures lives { LivesStay }
-    ensures lists { ListsAll }
-    ensures rules { RulesStay }
+    ensures lists { ListsUnsound }
+    ensures rules { RulesStayFound }
     ensures once { FoundOnce }
     ensures twice { TwiceIsOnce }
     ensures all { AllFound }

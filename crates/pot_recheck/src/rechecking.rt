@@ -1,10 +1,11 @@
 //! The image of a desk is rechecked.
 ghost use Rattle.std.specs.Prelude.{◌≡◌, ◌<◌, IsTrue, IfOk, OnOk, Some, length};
-ghost use Rattle.pot_outside.specs.Accounts.{Faults, transition};
+ghost use Rattle.pot_outside.specs.Accounts.{Faults};
+ghost use Rattle.pot_outside.specs.Desks.{image_transition};
 ghost use Rattle.pot_image.specs.Images.{contents};
 ghost use Rattle.pot_image.specs.Rules.{FitsTogether, IsImage};
 ghost use Rattle.pot_recheck.specs.Listing.{in_image};
-ghost use Rattle.pot_recheck.specs.Rechecking.{HoldsImage, Rechecks, WasRead};
+ghost use Rattle.pot_recheck.specs.Rechecking.{HoldsImage, Rechecks, ImageWasRead};
 ghost use Rattle.pot_recheck.specs.Rechecking.{all_live, live_bytes};
 
 use crate::finding::find_again;
@@ -41,7 +42,7 @@ pub enum Rechecked {
 /// still that of the session that wrote it, and its logs are those of that session.
 pub fn recheck<D: Desk>(alloc: Global, desk: &mut D) -> Rechecked
     ensures told { IsTrue D.account.tells
-        → Rechecks (transition D.account desk.old desk.new) result }
+        → Rechecks (image_transition D.account desk.old desk.new) result }
     ensures cause { Faults D.account desk.old desk.new (result ≡ Rechecked.DeskFault) }
 {
     match desk.read() {
@@ -54,8 +55,8 @@ pub fn recheck<D: Desk>(alloc: Global, desk: &mut D) -> Rechecked
 
 /// The same of a desk that holds these bytes.
 fn recheck_bytes<D: Desk>(alloc: Global, bytes: &[u8], desk: &mut D) -> Rechecked
-    ensures told { IsTrue D.account.tells → (D.account.meaning desk.old).held ≡ Some bytes.now
-        → Rechecks (transition D.account desk.old desk.new) result }
+    ensures told { IsTrue D.account.tells → (D.account.meaning desk.old).held.now ≡ Some bytes.now
+        → Rechecks (image_transition D.account desk.old desk.new) result }
     ensures cause { Faults D.account desk.old desk.new (result ≡ Rechecked.DeskFault) }
 {
     match read_image(alloc, bytes) {
@@ -70,9 +71,9 @@ fn recheck_bytes<D: Desk>(alloc: Global, bytes: &[u8], desk: &mut D) -> Rechecke
 /// The same of a desk that holds this image.
 fn recheck_image<D: Desk>(alloc: Global, image: Image, desk: &mut D) -> Rechecked
     requires fits { FitsTogether (contents image) }
-    requires read { WasRead image }
-    ensures told { IsTrue D.account.tells → HoldsImage (D.account.meaning desk.old).held image
-        → Rechecks (transition D.account desk.old desk.new) result }
+    requires read { ImageWasRead image }
+    ensures told { IsTrue D.account.tells → HoldsImage (D.account.meaning desk.old).held.now image
+        → Rechecks (image_transition D.account desk.old desk.new) result }
     ensures cause { Faults D.account desk.old desk.new (result ≡ Rechecked.DeskFault) }
 {
     match unsound_slots(alloc, &image) {
@@ -90,11 +91,11 @@ fn recheck_image<D: Desk>(alloc: Global, image: Image, desk: &mut D) -> Rechecke
 /// Puts the image in which these slots are Live in the place of the desk's.
 fn keep_found<D: Desk>(alloc: Global, image: Image, found: Vec<Unsound>, desk: &mut D) -> Rechecked
     requires fits { FitsTogether (contents image) }
-    requires read { WasRead image }
+    requires read { ImageWasRead image }
     requires all { found.items ≡ in_image (contents image) }
     requires some { 0 < length found.items }
-    ensures told { IsTrue D.account.tells → HoldsImage (D.account.meaning desk.old).held image
-        → Rechecks (transition D.account desk.old desk.new) result }
+    ensures told { IsTrue D.account.tells → HoldsImage (D.account.meaning desk.old).held.now image
+        → Rechecks (image_transition D.account desk.old desk.new) result }
     ensures cause { Faults D.account desk.old desk.new (result ≡ Rechecked.DeskFault) }
 {
     match found_bytes(alloc, image, &found) {
@@ -109,7 +110,7 @@ fn keep_found<D: Desk>(alloc: Global, image: Image, found: Vec<Unsound>, desk: &
 /// The bytes of the image in which all slots are Live that are not Void.
 fn found_bytes(alloc: Global, image: Image, found: &[Unsound]) -> Result<Vec<u8>, NoMemory>
     requires fits { FitsTogether (contents image) }
-    requires read { WasRead image }
+    requires read { ImageWasRead image }
     requires all { found.now ≡ in_image (contents image) }
     ensures bytes { IfOk result (λ bytes. bytes.items ≡ live_bytes image) }
     ensures rules { OnOk result (IsImage (all_live (contents image))) }

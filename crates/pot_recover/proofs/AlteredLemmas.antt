@@ -16,7 +16,7 @@ use Rattle.pot_shard.specs.declared.shard.Shard.{Shard}
 use Rattle.pot_recover.specs.Altered.{without_share, HasOtherShares, distance, altered_shares, borne_of, AlteredLaws}
 use Rattle.pot_recover.specs.Held.{IsHeld}
 use Rattle.pot_recover.specs.Recovered.{IsClosedIn}
-use Rattle.pot_recover.specs.Rings.{IsRing, points_of, bytes_at, need_of, Closes}
+use Rattle.pot_recover.specs.Rings.{IsRing, points_of, bytes_at, need_of, ClosesRing}
 use Rattle.pot_recover.specs.Robust.{IsRobustAt, ClosesRobustlyAsRing, IsRobustlyClosedIn}
 use Rattle.pot_recover.proofs.RingLemmas.{all_weaker, samples}
 
@@ -94,7 +94,7 @@ ring_same ring altered e is = (ring_bare altered).1 (subst IsRing (sym e) ((ring
 
 places_law : (ring altered : List Shard) (content : List ℕ) → HasOtherShares ring altered
     → ((k : ℕ) → k < 992 → distance (bytes_at k ring) (bytes_at k altered) ≤ borne_of ring)
-    → IsRing ring → Closes ring content → ClosesRobustlyAsRing altered content
+    → IsRing ring → ClosesRing ring content → ClosesRobustlyAsRing altered content
 places_law ring altered content e few is closes = (
   ring_same ring altered e is,
   record {
@@ -132,7 +132,7 @@ few_at k (s ∷ ss) (t ∷ ts) = omega (arith, one (bytes_eq s.share t.share) re
     one false e = at_most_one (nat_eq (get_or s.share k 0) (get_or t.share k 0))
 
 shares_law : (ring altered : List Shard) (content : List ℕ) → HasOtherShares ring altered → altered_shares ring altered ≤ borne_of ring
-    → IsRing ring → Closes ring content → ClosesRobustlyAsRing altered content
+    → IsRing ring → ClosesRing ring content → ClosesRobustlyAsRing altered content
 shares_law ring altered content e few = places_law ring altered content e (λ k lt. omega (arith, few_at k ring altered, few))
 
 distance_self : (xs : List ℕ) → distance xs xs ≡ 0

@@ -15,7 +15,7 @@ use Rattle.std.proofs.lemmas.Bool.Decides.{nat_tests}
 use Rattle.pot_chains.specs.Listed.{IsIn, IsOnce}
 use Rattle.pot_chains.proofs.ListedLemmas.{in_from_contains, contains_from_in, in_append, in_left, in_right}
 use Rattle.pot_recover.specs.Contents.{HeadsRise}
-use Rattle.pot_recover.specs.Recovered.{IsBefore}
+use Rattle.pot_recover.specs.Recovered.{IsBytesBefore}
 use Rattle.pot_recover.proofs.OrderLemmas.{once_from_sorted}
 
 module _ (E : List ℕ → List ℕ → Bool) (ties : (x y : List ℕ) → E x y ≡ eq_by_cmp (slice_cmp nat_cmp) x y)
@@ -98,18 +98,18 @@ module _ (x y : ℕ) where
   same_of e = exact_unsigned x y e
 
 -- what compares as less stands before in byte order
-before : (a b : List ℕ) → slice_cmp nat_cmp a b ≡ Less → IsBefore a b
+before : (a b : List ℕ) → slice_cmp nat_cmp a b ≡ Less → IsBytesBefore a b
 before [] [] h = absurd (cc)
 before [] (y ∷ ys) h = tt
 before (x ∷ xs) [] h = absurd (cc)
 before (x ∷ xs) (y ∷ ys) h = by (nat_cmp x y) refl (λ e. before xs ys e) h
   where
-    by : (o : Ordering) → nat_cmp x y ≡ o → (slice_cmp nat_cmp xs ys ≡ Less → IsBefore xs ys) → ordering_then o (slice_cmp nat_cmp xs ys) ≡ Less → (x < y) ⊎ ((x ≡ y) × IsBefore xs ys)
+    by : (o : Ordering) → nat_cmp x y ≡ o → (slice_cmp nat_cmp xs ys ≡ Less → IsBytesBefore xs ys) → ordering_then o (slice_cmp nat_cmp xs ys) ≡ Less → (x < y) ⊎ ((x ≡ y) × IsBytesBefore xs ys)
     by Less e rest h = inl (less_of x y e)
     by Equal e rest h = inr (same_of x y e, rest h)
     by Greater e rest h = absurd (cc)
 
-pub in_byte_order : (ls : List (List ℕ)) → IsStrictlySortedBy (slice_cmp nat_cmp) ls → AllPairs IsBefore ls
+pub in_byte_order : (ls : List (List ℕ)) → IsStrictlySortedBy (slice_cmp nat_cmp) ls → AllPairs IsBytesBefore ls
 in_byte_order ls h i j d less within = before (get_or ls i d) (get_or ls j d) (pairs_in_order ls h i j d less within)
 
 pub once_in_order : (ls : List (List ℕ)) → IsStrictlySortedBy (slice_cmp nat_cmp) ls → IsOnce ls

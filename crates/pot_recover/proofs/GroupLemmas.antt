@@ -6,7 +6,7 @@ use Rattle.std.proofs.lemmas.Option.{slice_get_within, slice_get-get_or, get_or_
 use Rattle.pot_chains.specs.Levels.{IsPathFrom, IsPath, IsPathBelow}
 use Rattle.pot_chains.specs.Listed.{IsIn, IsOnce, IsListed}
 use Rattle.pot_chains.specs.Paths.{AreLinked, AreAll}
-use Rattle.pot_chains.specs.Steps.{IsMeant}
+use Rattle.pot_chains.specs.Steps.{IsPointedAt}
 use Rattle.pot_chains.specs.declared.levels.Level.{Level}
 use Rattle.pot_chains.proofs.ListedLemmas.{listed_map_on, listed_same, contains_from_in, in_get_or}
 use Rattle.pot_pointer.specs.Pointers.{blur}
@@ -41,11 +41,11 @@ module _ (shards : List Shard) (m n bits : ℕ) where
   at x part p is inside = (is.each (get_or part p no_shard)).0 (in_get_or p part no_shard inside)
 
   -- what the pointer of a level means stands in the next part, under its name
-  pub meant_inside : (part next : List Shard) (a b : Level) (p q : ℕ) → IsLevelOf next b → IsMeant a.pointers.items b.index bits p q → q < length next
+  pub meant_inside : (part next : List Shard) (a b : Level) (p q : ℕ) → IsLevelOf next b → IsPointedAt a.pointers.items b.index bits p q → q < length next
   meant_inside part next a b p q is meant =
       let within = slice_get_within b.index q meant.0 meant.1 in omega (arith, within, ap length is.names, length-map next (λ (s : Shard). s.name))
 
-  pub meant_name : (part next : List Shard) (a b : Level) (p q : ℕ) → IsLevelOf part a → IsLevelOf next b → p < length part → IsMeant a.pointers.items b.index bits p q
+  pub meant_name : (part next : List Shard) (a b : Level) (p q : ℕ) → IsLevelOf part a → IsLevelOf next b → p < length part → IsPointedAt a.pointers.items b.index bits p q
       → blur (get_or next q no_shard).name bits ≡ (get_or part p no_shard).pointer
   meant_name part next a b p q is_a is_b inside meant =
       let inside_next = meant_inside part next a b p q is_b meant in

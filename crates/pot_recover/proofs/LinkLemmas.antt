@@ -6,7 +6,7 @@ use Rattle.std.proofs.lemmas.List.FromFn.{length-range_with_len, get_or-range_wi
 use Rattle.pot_chains.specs.Listed.{IsIn}
 use Rattle.pot_chains.specs.Paths.{last_of, AreLinked}
 use Rattle.pot_chains.proofs.ListedLemmas.{contains_from_in}
-use Rattle.pot_shard.specs.LinkedRings.{IsLinked, IsNext, IsRing as IsStoredRing}
+use Rattle.pot_shard.specs.LinkedRings.{IsLinked, IsNextPoint, IsLinkedRing as IsStoredRing}
 use Rattle.pot_shard.specs.declared.shard.Shard.{Shard}
 use Rattle.pot_recover.specs.Rings.{IsRing, points_of}
 use Rattle.pot_recover.specs.StoredRings.{LinkLaws}
@@ -34,7 +34,7 @@ point_at shards n i d points less =
     sym (get_or-mapped (λ (s : Shard). s.x) shards i d 0 (omega (arith, less, long))) ∙ (ap (λ l. get_or l i 0) points ∙ get_or-range_with_len 1 n i 0 less)
 
 all_linked : (n x : ℕ) (s : Shard) (rest : List Shard) → points_of (s ∷ rest) ≡ range_with_len x (suc (length rest)) → x + length rest ≤ n
-    → ((a b : Shard) → IsIn (s ∷ rest) a → IsIn (s ∷ rest) b → IsNext n a.x b.x → IsLinked a b) → AreLinked IsLinked s rest
+    → ((a b : Shard) → IsIn (s ∷ rest) a → IsIn (s ∷ rest) b → IsNextPoint n a.x b.x → IsLinked a b) → AreLinked IsLinked s rest
 all_linked n x s [] points few linked = tt
 all_linked n x s (t ∷ rest) points few linked =
     let here : s.x ≡ x = ap (λ l. get_or l 0 0) points in
@@ -53,7 +53,7 @@ to_ring n (s ∷ rest) some is =
     let long : length (s ∷ rest) ≡ n = sym (length-map (s ∷ rest) (λ (t : Shard). t.x)) ∙ (ap length is.points ∙ length-range_with_len 1 n) in
     let points : points_of (s ∷ rest) ≡ range_with_len 1 (suc (length rest)) = is.points ∙ ap (range_with_len 1) (sym long) in
     let first : s.x ≡ 1 = ap (λ l. get_or l 0 0) points in
-    let linked = λ (a b : Shard) (i : IsIn (s ∷ rest) a) (j : IsIn (s ∷ rest) b) (next : IsNext n a.x b.x).
+    let linked = λ (a b : Shard) (i : IsIn (s ∷ rest) a) (j : IsIn (s ∷ rest) b) (next : IsNextPoint n a.x b.x).
     is.linked a b (contains_from_in (s ∷ rest) a i) (contains_from_in (s ∷ rest) b j) next in
     let last : (last_of s rest).x ≡ n =
     ap (λ (t : Shard). t.x) (last_is_at s rest s) ∙ (point_at (s ∷ rest) n (length rest) s is.points (omega (arith, long)) ∙ (let e : 1 + length rest ≡ n = omega (arith, long) in e)) in
@@ -69,7 +69,7 @@ from_ring n (s ∷ rest) is long = record { points = points; linked = linked }
     points =
         points_run s rest is.2 (omega (arith, is.0, is.1)) ∙ (ap (λ x. range_with_len x (suc (length rest))) is.0 ∙ ap (range_with_len 1) long)
 
-    linked : (a b : Shard) → Contains (s ∷ rest) a → Contains (s ∷ rest) b → IsNext n a.x b.x → IsLinked a b
+    linked : (a b : Shard) → Contains (s ∷ rest) a → Contains (s ∷ rest) b → IsNextPoint n a.x b.x → IsLinked a b
     linked a b i j next =
         let at_a : get_or (s ∷ rest) i.0 s ≡ a = get_or_default (s ∷ rest) i.0 s a i.1 ∙ i.2 in
         let at_b : get_or (s ∷ rest) j.0 s ≡ b = get_or_default (s ∷ rest) j.0 s b j.1 ∙ j.2 in

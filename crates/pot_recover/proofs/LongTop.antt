@@ -1,14 +1,14 @@
 -- From the shards that are held to the objects that are robustly recovered.
-use Rattle.std.proofs.Common.{◌↔◌, inl, inr, ℕ, ◌≤◌, List, [], ◌∷◌, refl, subst, sym, arith}
+use Rattle.std.proofs.Common.{◌≡◌, ◌↔◌, inl, inr, ℕ, ◌≤◌, List, [], ◌∷◌, refl, subst, sym, arith, ◌+◌, ◌-◌}
 use Rattle.std.specs.Prelude.{AllPairs, ⊤}
 use Rattle.pot_chains.specs.Listed.{IsIn, AreAbove}
 use Rattle.pot_chains.specs.Paths.{AreAll}
 use Rattle.pot_chains.proofs.ListedLemmas.{listed_same}
 use Rattle.pot_shard.specs.declared.shard.Shard.{Shard}
 use Rattle.pot_recover.specs.Choices.{AreContents}
-use Rattle.pot_recover.specs.Counts.{IsCounted}
+use Rattle.pot_recover.specs.Counts.{IsCounted, IsCountedTo}
 use Rattle.pot_recover.specs.Held.{IsHeld}
-use Rattle.pot_recover.specs.Recovered.{IsChoice, IsRecovered, IsBefore}
+use Rattle.pot_recover.specs.Recovered.{IsChoice, IsRecovered, IsBytesBefore}
 use Rattle.pot_recover.specs.Rings.{IsRing}
 use Rattle.pot_recover.specs.LongScopes.{IsLongChainIn, HasSearchedLong}
 use Rattle.pot_recover.specs.Robust.{IsLongChain, IsRobustlyClosedIn, AreRobustlyRecovered, IsRobustlyTooWide, IsRobustlyWithin}
@@ -35,18 +35,18 @@ module _ (blocks : List (List ℕ)) (bits : ℕ) (shards : List Shard) (same : (
   from_chain (s ∷ rest) h = (chain_weaker (IsHeld blocks bits) (IsIn shards) (λ t i. (same t).1 i) (s ∷ rest) h, tt)
 
   -- the chains are counted
-  pub chains_counted : (count : ℕ) (found : List (List ℕ)) → HasSearchedLong shards All 0 count [] found → count ≤ 4000000 → IsCounted (IsLongChain (IsHeld blocks bits)) count
-  chains_counted count found searched few = inl (
+  pub chains_counted : (most first count : ℕ) (found : List (List ℕ)) → HasSearchedLong shards All first count [] found → first + most ≡ 4000000 → count ≤ 4000000 → IsCountedTo most (IsLongChain (IsHeld blocks bits)) (count - first)
+  chains_counted most first count found searched sum few = inl (
     (
       searched.chains.0,
       listed_same (IsLongChainIn shards All) (IsLongChain (IsHeld blocks bits)) searched.chains.0 (λ c. (to_chain c, from_chain c)) searched.chains.1,
       omega (arith, searched.chains.2),
     ),
-    few,
+    omega (arith, sum, few),
   )
 
-  pub chains_wide : AreAbove (IsLongChainIn shards All) 4000000 0 → IsCounted (IsLongChain (IsHeld blocks bits)) 4000001
-  chains_wide above = inr ((above.0, above.1, λ c h. to_chain c (above.2 c h), omega (arith, above.3)), refl)
+  pub chains_wide : (most first : ℕ) → first + most ≡ 4000000 → AreAbove (IsLongChainIn shards All) 4000000 first → IsCountedTo most (IsLongChain (IsHeld blocks bits)) (most + 1)
+  chains_wide most first sum above = inr ((above.0, above.1, λ c h. to_chain c (above.2 c h), omega (arith, sum, above.3)), refl)
 
   all_held : (c : List Shard) → IsLongChain (IsHeld blocks bits) c → AreAll (IsHeld blocks bits) c
   all_held [] h = absurd h
@@ -58,8 +58,8 @@ module _ (blocks : List (List ℕ)) (bits : ℕ) (shards : List Shard) (same : (
   ring_chain (s ∷ rest) all ring = (ring.0, all, ring.2, omega (arith, ring.1))
 
   -- what was found is what is robustly closed
-  pub found_closed : (count : ℕ) (found : List (List ℕ)) → HasSearchedLong shards All 0 count [] found → (c : List ℕ) → IsIn found c ↔ IsRobustlyClosedIn blocks bits c
-  found_closed count found searched c = (
+  pub found_closed : (first count : ℕ) (found : List (List ℕ)) → HasSearchedLong shards All first count [] found → (c : List ℕ) → IsIn found c ↔ IsRobustlyClosedIn blocks bits c
+  found_closed first count found searched c = (
     λ h. elim ((searched.found c).0 h) [
       | inl none ↦ absurd none
       | inr w ↦ (w.0, all_held w.0 (to_chain w.0 w.1), w.2.0, w.2.1)
@@ -73,7 +73,7 @@ robust_grammar blocks bits contents is c h = ((is c).0 h).3.grammar
 
 module _ (blocks : List (List ℕ)) (bits : ℕ) (contents : List (List ℕ)) (same : (c : List ℕ) → IsIn contents c ↔ IsRobustlyClosedIn blocks bits c) where
   -- the objects are those of the blocks
-  pub are_recovered : (objects : List (List ℕ)) → ((o : List ℕ) → IsIn objects o ↔ IsRecovered (IsIn contents) o) → AllPairs IsBefore objects → AreRobustlyRecovered blocks bits objects
+  pub are_recovered : (objects : List (List ℕ)) → ((o : List ℕ) → IsIn objects o ↔ IsRecovered (IsIn contents) o) → AllPairs IsBytesBefore objects → AreRobustlyRecovered blocks bits objects
   are_recovered objects each order = record {
     each = λ o.
         let r = recovered_same (IsIn contents) (IsRobustlyClosedIn blocks bits) same o in
@@ -84,10 +84,10 @@ module _ (blocks : List (List ℕ)) (bits : ℕ) (contents : List (List ℕ)) (s
   choices_same : (n : ℕ) → IsCounted (IsChoice (IsIn contents)) n → IsCounted (IsChoice (IsRobustlyClosedIn blocks bits)) n
   choices_same n = counted_same (IsChoice (IsIn contents)) (IsChoice (IsRobustlyClosedIn blocks bits)) n (choice_same (IsIn contents) (IsRobustlyClosedIn blocks bits) same)
 
-  pub are_within : (chains : ℕ) → IsCounted (IsLongChain (IsHeld blocks bits)) chains → chains ≤ 4000000 → AreFew (IsIn contents) → IsRobustlyWithin blocks bits
-  are_within chains counted few (choices, number, borne) = (chains, choices, counted, choices_same choices number, few, borne)
+  pub are_within : (most chains : ℕ) → IsCountedTo most (IsLongChain (IsHeld blocks bits)) chains → chains ≤ most → AreFew (IsIn contents) → IsRobustlyWithin most blocks bits
+  are_within most chains counted few (choices, number, borne) = (chains, choices, counted, choices_same choices number, few, borne)
 
-  pub are_too_wide : (chains : ℕ) (fault : RecoverFault) → IsCounted (IsLongChain (IsHeld blocks bits)) chains → chains ≤ 4000000 → AreTooWide (IsIn contents) chains fault → IsRobustlyTooWide blocks bits fault
-  are_too_wide chains (Wide c k) counted few (is, number, wide) =
-      (subst (IsCounted (IsLongChain (IsHeld blocks bits))) (sym is) counted, inr (omega (arith, is, few), choices_same k number, wide))
-  are_too_wide chains NoMemory counted few h = tt
+  pub are_too_wide : (most chains : ℕ) (fault : RecoverFault) → IsCountedTo most (IsLongChain (IsHeld blocks bits)) chains → chains ≤ most → AreTooWide (IsIn contents) chains fault → IsRobustlyTooWide most blocks bits fault
+  are_too_wide most chains (Wide c k) counted few (is, number, wide) =
+      (subst (IsCountedTo most (IsLongChain (IsHeld blocks bits))) (sym is) counted, inr (omega (arith, is, few), choices_same k number, wide))
+  are_too_wide most chains NoMemory counted few h = tt

@@ -16,7 +16,7 @@ use Rattle.pot_recover.specs.Groups.{IsAt, AreParts, no_shard, shards_at, AreIns
 use Rattle.pot_recover.specs.HeldShards.{shard_of, point_of, bytes_held, IsFixedBy}
 use Rattle.pot_recover.specs.Reached.{IsNextPointer}
 use Rattle.pot_recover.specs.Rings.{points_of, bytes_at}
-use Rattle.pot_recover.specs.Sets.{IsFixed, Fits, IsNextShard, IsPointed, ReturnsTo}
+use Rattle.pot_recover.specs.Sets.{IsFixed, FitsChain, IsNextShard, IsPointed, ReturnsTo}
 use Rattle.pot_recover.specs.declared.held.Held.{Held}
 use Rattle.pot_recover.proofs.GroupLemmas.{get_or-mapped}
 use Rattle.pot_recover.proofs.ReachedLemmas.{last_at, reached_at, next_set}
@@ -67,7 +67,8 @@ part_at_place shards m n bits x (suc i) (part ∷ parts) are inside =
     subst (λ y. IsListed (λ s. IsIn shards s × IsAt m n bits y s) (get_or parts i [])) (let e : suc x + i ≡ x + suc i = omega arith in e)
     (part_at_place shards m n bits (suc x) i parts are.1 (omega arith))
 
--- The pointers that are found are those of the shards of the next point that hold the fixed share and that an old pointer means.
+-- The pointers that are found are those of the shards of the next point that hold the fixed share
+-- and that an old pointer means.
 pub next_is : (shards : List Shard) (m n bits x : ℕ) (chain : List Shard) (there : List Held) (pointers : List ℕ) (share : List ℕ)
     → IsWholeChain shards m n bits chain → IsListed (λ s. IsIn shards s × IsAt m n bits x s) (map (shard_of bits) there)
     → IsFixed chain x share → length share ≡ 992
@@ -136,13 +137,13 @@ pub returns_is : (shards : List Shard) (m n bits : ℕ) (chain : List Shard) (po
 returns_is shards m n bits [] pointers w is = (λ h. absurd w.of, λ h. absurd w.of)
 returns_is shards m n bits (s ∷ rest) pointers w is =
     let steps : s.n - s.m ≡ n - m = ap₂ (λ a b. a - b) w.of.2 w.of.1 in
-    let at = λ (t : Shard) (r : IsReached IsLinked (Fits (IsIn shards) (s ∷ rest)) (last_of s rest) (n - m) t).
+    let at = λ (t : Shard) (r : IsReached IsLinked (FitsChain (IsIn shards) (s ∷ rest)) (last_of s rest) (n - m) t).
     reached_at (IsIn shards) (s ∷ rest) m n bits (last_of s rest) (end_at shards m n bits s rest w) (n - m) t (omega (arith, w.few)) r in (
       λ h.
           let r = (is (blur s.name bits)).0 h in
           let a = at r.0 r.1 in (
             r.0,
-            subst (λ k. IsReached IsLinked (Fits (IsIn shards) (s ∷ rest)) (last_of s rest) k r.0) (sym steps) r.1,
+            subst (λ k. IsReached IsLinked (FitsChain (IsIn shards) (s ∷ rest)) (last_of s rest) k r.0) (sym steps) r.1,
             record {
               needed = w.of.1 ∙ sym a.need;
               count = w.of.2 ∙ sym a.count;
@@ -153,7 +154,7 @@ returns_is shards m n bits (s ∷ rest) pointers w is =
           ),
       λ r. (is (blur s.name bits)).1 (
         r.0,
-        subst (λ k. IsReached IsLinked (Fits (IsIn shards) (s ∷ rest)) (last_of s rest) k r.0) steps r.1,
+        subst (λ k. IsReached IsLinked (FitsChain (IsIn shards) (s ∷ rest)) (last_of s rest) k r.0) steps r.1,
         r.2.pointer ∙ ap (blur s.name) (w.blurred s w.of.0.1.0),
       ),
     )

@@ -9,7 +9,7 @@ use Rattle.pot_gf.proofs.Zeros.{unique_law}
 use Rattle.pot_recover.specs.HeldShards.{shard_of, point_of, bytes_held, AreWhole, HaveBytes, IsFixedBy}
 use Rattle.pot_recover.specs.OpenScopes.{IsJoinable}
 use Rattle.pot_recover.specs.Points.{ArePoints}
-use Rattle.pot_recover.specs.Rings.{points_of, bytes_at, need_of, IsAnyContent, Closes}
+use Rattle.pot_recover.specs.Rings.{points_of, bytes_at, need_of, IsAnyContent, ClosesRing}
 use Rattle.pot_recover.specs.declared.held.Held.{Held}
 use Rattle.pot_recover.proofs.ContentLemmas.{samples_of, one_content}
 use Rattle.pot_recover.proofs.NextLemmas.{points_same, bytes_same}
@@ -54,7 +54,7 @@ module _ (bits : ℕ) (chain : List Held) (w : IsJoinable (map (shard_of bits) c
       (subst (λ (p : List ℕ). IsOnOne (need_of (map (shard_of bits) chain)) p (bytes_held k chain) byte) (points_same bits chain)
       (subst (λ m. IsOnOne m (map point_of chain) (bytes_held k chain) byte) as_many h))
 
-  fixed_closes : (c : List ℕ) → IsFixedBy chain 0 c → IsAnyContent c → Closes (map (shard_of bits) chain) c
+  fixed_closes : (c : List ℕ) → IsFixedBy chain 0 c → IsAnyContent c → ClosesRing (map (shard_of bits) chain) c
   fixed_closes c fixed any = record {
     places = λ k lt.
         let r = through (map point_of chain) (bytes_held k chain) (samples k) in
@@ -62,18 +62,18 @@ module _ (bits : ℕ) (chain : List Held) (w : IsJoinable (map (shard_of bits) c
     grammar = any;
   }
 
-  closes_fixed : (c : List ℕ) → Closes (map (shard_of bits) chain) c → IsFixedBy chain 0 c
+  closes_fixed : (c : List ℕ) → ClosesRing (map (shard_of bits) chain) c → IsFixedBy chain 0 c
   closes_fixed c closes k lt q bytes below passes =
       let p = on_held k (get_or c k 0) (closes.places k lt) in
       let s = samples k in
       sym p.4 ∙ (sym (value-at_zero p.0 p.1) ∙ value-same p.0 q 0 (unique_law (map point_of chain) (bytes_held k chain) p.0 q s.points_bytes p.1 bytes s.distinct p.2 below p.3 passes))
 
   -- the one content that it gives
-  pub gives_one : (content : List ℕ) → IsFixedBy chain 0 content → IsAnyContent content → (c : List ℕ) → (content ≡ c) ↔ Closes (map (shard_of bits) chain) c
+  pub gives_one : (content : List ℕ) → IsFixedBy chain 0 content → IsAnyContent content → (c : List ℕ) → (content ≡ c) ↔ ClosesRing (map (shard_of bits) chain) c
   gives_one content fixed any c = (
-    λ e. subst (Closes (map (shard_of bits) chain)) e (fixed_closes content fixed any),
+    λ e. subst (ClosesRing (map (shard_of bits) chain)) e (fixed_closes content fixed any),
     λ closes. one_content chain open_points open_bytes content c any.1.long closes.grammar.1.long fixed (closes_fixed c closes),
   )
 
-  pub gives_none : ((c : List ℕ) → IsFixedBy chain 0 c → ¬ IsAnyContent c) → (c : List ℕ) → ¬ Closes (map (shard_of bits) chain) c
+  pub gives_none : ((c : List ℕ) → IsFixedBy chain 0 c → ¬ IsAnyContent c) → (c : List ℕ) → ¬ ClosesRing (map (shard_of bits) chain) c
   gives_none none c closes = none c (closes_fixed c closes) closes.grammar

@@ -19,7 +19,7 @@ use Rattle.pot_recover.proofs.TopLemmas.{choice_weaker}
 use Rattle.pot_recover.proofs.StoredLemmas.{closes, objects_law, ring}
 use Rattle.pot_shard.specs.FileBlocks.{shard_of}
 use Rattle.pot_shard.specs.FileLaws.{IsStore, content_in, shards_in}
-use Rattle.pot_shard.specs.LinkedRings.{IsLinked, IsNext}
+use Rattle.pot_shard.specs.LinkedRings.{IsLinked, IsNextPoint}
 use Rattle.pot_shard.specs.Places.{shard_in}
 use Rattle.pot_shard.specs.Shards.{shard_bytes}
 use Rattle.pot_shard.proofs.LinkLemmas.{rings_law, shards_law}
@@ -51,10 +51,10 @@ closed_open blocks bits content (s ∷ all, are_held, ring, closes) =
 
 -- THE SHARDS THAT FOLLOW ONE ANOTHER
 
-place_next : (n p : ℕ) → p < n → IsNext n (p + 1) (place_after n p + 1)
+place_next : (n p : ℕ) → p < n → IsNextPoint n (p + 1) (place_after n p + 1)
 place_next n p less = by (nat_eq (p + 1) n) refl
   where
-    by : (b : Bool) → nat_eq (p + 1) n ≡ b → IsNext n (p + 1) ((if b then 0 else p + 1) + 1)
+    by : (b : Bool) → nat_eq (p + 1) n ≡ b → IsNextPoint n (p + 1) ((if b then 0 else p + 1) + 1)
     by true e = inr (eqb-true (p + 1) n e, refl)
     by false e = inl ((elim (cases_lt (p + 1) n) [ inl low ↦ low | inr high ↦ absurd (false≢true (sym e ∙ eq-eqb (p + 1) n (omega (arith, less, high)))) ]), refl)
 
@@ -88,8 +88,8 @@ module _ (g : Geometry) (file random : List ℕ) (i j : ℕ) (is : IsStore g fil
   linked p less =
       let next = place_within g.shards p less in
       (rings_law g file random i j).linked (At p) (At (place_after g.shards p)) (stands p less) (stands (place_after g.shards p) next)
-      (subst (λ x. IsNext g.shards x (At (place_after g.shards p)).x) (sym (place_laws.point g file random i j p))
-      (subst (λ y. IsNext g.shards (p + 1) y) (sym (place_laws.point g file random i j (place_after g.shards p))) (place_next g.shards p less)))
+      (subst (λ x. IsNextPoint g.shards x (At (place_after g.shards p)).x) (sym (place_laws.point g file random i j p))
+      (subst (λ y. IsNextPoint g.shards (p + 1) y) (sym (place_laws.point g file random i j (place_after g.shards p))) (place_next g.shards p less)))
 
   all_linked : (p k : ℕ) → p < g.shards → AreLinked IsLinked (At p) (map At (run_of g.shards (place_after g.shards p) k))
   all_linked p zero less = tt

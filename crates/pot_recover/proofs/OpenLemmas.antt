@@ -2,8 +2,8 @@
 use Rattle.std.proofs.Common.{◌≡◌, ◌↔◌, ◌⊎◌, inl, inr, ℕ, zero, suc, ◌+◌, ◌-◌, ◌<◌, ◌≤◌, Bool, true, false, List, [], ◌∷◌, ◌++◌, map, length, take, Some, get_or, nat_eq, refl, sym, ap, ◌∙◌, subst, arith, lit<, length-append, append_assoc, add-one, eqb-true, eq-eqb}
 use Rattle.std.specs.Borrow.{Bor}
 use Rattle.std.specs.Prelude.{⊤, ◌^◌, slice_get}
-use Rattle.std.specs.List.{All, IsDistinct}
-use Rattle.std.proofs.lemmas.Bool.{cases_eq, cases_lt, ne_eqb}
+use Rattle.std.specs.List.{IsDistinct}
+use Rattle.std.proofs.lemmas.Bool.{cases_lt, ne_eqb}
 use Rattle.std.proofs.lemmas.List.{length-map}
 use Rattle.std.proofs.lemmas.Option.{slice_get-get_or}
 use Rattle.std.proofs.lemmas.Map.Keys.{IsDistinct-from_apart}
@@ -14,7 +14,7 @@ use Rattle.pot_chains.specs.Paths.{AreLinked}
 use Rattle.pot_chains.specs.declared.levels.Level.{Level}
 use Rattle.pot_chains.proofs.ListedLemmas.{listed_map_on, listed_same, listed_append, once_append, in_append, in_map, once_map_on, from_map, in_take_more}
 use Rattle.pot_pointer.specs.Pointers.{blur}
-use Rattle.pot_shard.specs.LinkedRings.{IsLinked, IsNext}
+use Rattle.pot_shard.specs.LinkedRings.{IsLinked, IsNextPoint}
 use Rattle.pot_shard.specs.declared.shard.Shard.{Shard}
 use Rattle.pot_bytes.proofs.Elements.{length-filter_le}
 use Rattle.pot_recover.specs.Groups.{IsAt, AreLevelsOf, AreInside, IsHoldable, no_shard, now_of, part_of, shards_at, parts_of}
@@ -22,7 +22,7 @@ use Rattle.pot_recover.specs.HeldShards.{shard_of, stands_at}
 use Rattle.pot_recover.specs.declared.held.Held.{Held}
 use Rattle.pot_recover.specs.OpenScopes.{after, points_from, AreWindow, AreJoinable, IsWindow, IsOpenChainIn, IsOpenlyFound, IsGivenAmong, HasSearchedOpen, IsJoinable, BeginsAt}
 use Rattle.pot_recover.specs.Points.{ArePoints}
-use Rattle.pot_recover.specs.Rings.{need_of, points_of, Closes}
+use Rattle.pot_recover.specs.Rings.{need_of, points_of, ClosesRing}
 use Rattle.pot_recover.specs.declared.group.Group.{Group}
 use Rattle.pot_recover.proofs.ClosingLemmas.{all_in}
 use Rattle.pot_recover.proofs.GroupLemmas.{IsRun, at, get_or-mapped, index_same, meant_inside, meant_name, placed}
@@ -31,14 +31,14 @@ use Rattle.pot_recover.proofs.MemberLemmas.{levels_are, length-levels, part_list
 -- POINTS
 
 -- the point after x is the next, and the only one
-pub after_next : (n x : ℕ) → x ≤ n → IsNext n x (after n x)
+pub after_next : (n x : ℕ) → x ≤ n → IsNextPoint n x (after n x)
 after_next n x last = by (nat_eq x n) refl
   where
-    by : (b : Bool) → nat_eq x n ≡ b → IsNext n x (Rattle.std.specs.Prelude.if◌then◌else◌ b 1 (x + 1))
+    by : (b : Bool) → nat_eq x n ≡ b → IsNextPoint n x (Rattle.std.specs.Prelude.if◌then◌else◌ b 1 (x + 1))
     by true e = inr (eqb-true x n e, refl)
     by false e = inl ((elim (cases_lt x n) [ inl less ↦ less | inr more ↦ absurd (Rattle.std.proofs.lemmas.Bool.false≢true (sym e ∙ eq-eqb x n (omega (arith, more, last)))) ]), refl)
 
-pub next_after : (n x y : ℕ) → IsNext n x y → y ≡ after n x
+pub next_after : (n x y : ℕ) → IsNextPoint n x y → y ≡ after n x
 next_after n x y (inl on) = on.1 ∙ sym (ap (λ b. Rattle.std.specs.Prelude.if◌then◌else◌ b 1 (x + 1)) (ne_eqb x n (λ same. omega (arith, on.0, same))))
 next_after n x y (inr turned) = turned.1 ∙ sym (ap (λ b. Rattle.std.specs.Prelude.if◌then◌else◌ b 1 (x + 1)) (eq-eqb x n turned.0))
 
@@ -95,7 +95,7 @@ module _ (shards : List Shard) (m n bits : ℕ) where
     needed = b.need ∙ sym a.need;
     count = b.count ∙ sym a.count;
     bits = b.bits_are ∙ sym a.bits_are;
-    next = subst (λ k. IsNext s.n k t.x) (sym a.point) (subst (λ k. IsNext k x t.x) (sym a.count) (subst (IsNext n x) (sym b.point) (after_next n x last)));
+    next = subst (λ k. IsNextPoint s.n k t.x) (sym a.point) (subst (λ k. IsNextPoint k x t.x) (sym a.count) (subst (IsNextPoint n x) (sym b.point) (after_next n x last)));
     pointer = sym (ap (blur t.name) b.bits_are ∙ e);
   }
 
@@ -105,7 +105,7 @@ module _ (shards : List Shard) (m n bits : ℕ) where
     need = l.needed ∙ a.need;
     count = l.count ∙ a.count;
     bits_are = l.bits ∙ a.bits_are;
-    point = next_after n x t.x (subst (λ k. IsNext k x t.x) a.count (subst (λ k. IsNext s.n k t.x) a.point l.next));
+    point = next_after n x t.x (subst (λ k. IsNextPoint k x t.x) a.count (subst (λ k. IsNextPoint s.n k t.x) a.point l.next));
   }
 
   -- its points
@@ -309,7 +309,7 @@ module _ (shards : List Shard) (m n x : ℕ) (g : Group) (is : IsWindow shards m
         let r = open_path w.0 w.1 in
         let path : IsPath g.bits g.levels.items (length g.levels.items - 1) r.0 =
         subst (λ k. IsPath g.bits g.levels.items k r.0) (omega (arith, r.5, w.2, need_is w.0 w.1, levels_long)) r.3 in
-        (r.0, (listed.each r.0).1 path, subst (λ chain. Closes chain c) (sym r.4) w.3),
+        (r.0, (listed.each r.0).1 path, subst (λ chain. ClosesRing chain c) (sym r.4) w.3),
   )
 
   -- what was searched from here on
@@ -328,7 +328,7 @@ module _ (shards : List Shard) (m n x : ℕ) (g : Group) (is : IsWindow shards m
 -- one more chain
 pub among_more : (parts : List (List Shard)) (chains : List (List ℕ)) (i : ℕ) (d : List ℕ) (old found new : List (List ℕ)) → i < length chains
     → ((c : List ℕ) → IsIn found c ↔ (IsIn old c ⊎ IsGivenAmong parts (take i chains) c))
-    → ((c : List ℕ) → IsIn new c ↔ (IsIn found c ⊎ Closes (shards_at parts (get_or chains i d)) c))
+    → ((c : List ℕ) → IsIn new c ↔ (IsIn found c ⊎ ClosesRing (shards_at parts (get_or chains i d)) c))
     → (c : List ℕ) → IsIn new c ↔ (IsIn old c ⊎ IsGivenAmong parts (take (i + 1) chains) c)
 among_more parts chains i d old found new inside before step c =
     subst (λ k. IsIn new c ↔ (IsIn old c ⊎ IsGivenAmong parts (take k chains) c)) (sym (add-one i)) (
@@ -340,7 +340,7 @@ among_more parts chains i d old found new inside before step c =
         | inl first ↦ (step c).1 (inl ((before c).1 (inl first)))
         | inr w ↦ elim ((in_take_more i chains d w.0 inside).0 w.1) [
           | inl front ↦ (step c).1 (inl ((before c).1 (inr (w.0, front, w.2))))
-          | inr at ↦ (step c).1 (inr (subst (λ p. Closes (shards_at parts p) c) (sym at) w.2))
+          | inr at ↦ (step c).1 (inr (subst (λ p. ClosesRing (shards_at parts p) c) (sym at) w.2))
         ]
       ],
     )

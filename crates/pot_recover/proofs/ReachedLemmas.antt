@@ -4,7 +4,7 @@ use Rattle.pot_chains.specs.Paths.{last_of, AreLinked, IsReached}
 use Rattle.pot_pointer.specs.Pointers.{blur}
 use Rattle.pot_shard.specs.LinkedRings.{IsLinked}
 use Rattle.pot_shard.specs.declared.shard.Shard.{Shard}
-use Rattle.pot_recover.specs.Sets.{Fits, IsPointed, PointerLaws, IsNextShard}
+use Rattle.pot_recover.specs.Sets.{FitsChain, IsPointed, PointerLaws, IsNextShard}
 use Rattle.pot_recover.specs.Groups.{IsAt}
 use Rattle.pot_recover.specs.Held.{IsHeld}
 
@@ -23,7 +23,7 @@ last_at m n bits s (t ∷ rest) is (link, linked) few =
 
 module _ (held : Shard → Type 0) (chain : List Shard) (m n bits : ℕ) (last : Shard) (start : IsAt m n bits m last) where
   -- what is reached in k steps stands at the point m + k
-  pub reached_at : (k : ℕ) (t : Shard) → m + k ≤ n → IsReached IsLinked (Fits held chain) last k t → IsAt m n bits (m + k) t
+  pub reached_at : (k : ℕ) (t : Shard) → m + k ≤ n → IsReached IsLinked (FitsChain held chain) last k t → IsAt m n bits (m + k) t
   reached_at zero t few h =
       let r = subst (λ (x : Shard). IsAt m n bits m x) (sym h) start in
       record { need = r.need; count = r.count; bits_are = r.bits_are; point = omega (arith, r.point) }
@@ -34,7 +34,8 @@ module _ (held : Shard → Type 0) (chain : List Shard) (m n bits : ℕ) (last :
         | inr turned ↦ absurd (omega (arith, turned.0, is.point, is.count, few))
       ]
 
-  -- The pointers of the next set are those of the shards at the next point that hold the fixed share and whose name a pointer of this set means.
+  -- The pointers of the next set are those of the shards at the next point that hold the fixed
+  -- share and whose name a pointer of this set means.
   pub next_set : (k : ℕ) (old new : ℕ → Type 0) → m + suc k ≤ n
       → ((p : ℕ) → old p ↔ IsPointed held chain last k p)
       → ((p : ℕ) → new p ↔ IsNextShard held chain m n bits (m + suc k) old p)

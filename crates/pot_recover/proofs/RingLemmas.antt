@@ -17,8 +17,8 @@ use Rattle.pot_shard.specs.LinkedRings.{IsLinked}
 use Rattle.pot_shard.specs.Shards.{IsShard}
 use Rattle.pot_shard.specs.declared.shard.Shard.{Shard}
 use Rattle.pot_recover.specs.Held.{IsHeld}
-use Rattle.pot_recover.specs.Rings.{points_of, bytes_at, IsClosed}
-use Rattle.pot_recover.specs.Sets.{IsFixed, Fits, IsFound, RingLaws}
+use Rattle.pot_recover.specs.Rings.{points_of, bytes_at, IsFragmentClosed}
+use Rattle.pot_recover.specs.Sets.{IsFixed, FitsChain, IsContentFound, RingLaws}
 
 -- of lists one behind the other
 pub all_append : {X : Type 0} (P : X → Type 0) (xs ys : List X) → AreAll P xs → AreAll P ys → AreAll P (xs ++ ys)
@@ -129,13 +129,13 @@ module _ (held : Shard → Type 0) (shards : (t : Shard) → held t → IsShard 
   all_bytes : (c : List Shard) → AreAll held c → AreAll (λ (t : Shard). AreBytes t.share) c
   all_bytes c h = all_weaker held (λ (t : Shard). AreBytes t.share) bytes c h
 
-  pub to_closed : (content : List ℕ) → IsFound held content → IsClosed held content
+  pub to_closed : (content : List ℕ) → IsContentFound held content → IsFragmentClosed held content
   to_closed content ([], chain, long, closing) = absurd chain
   to_closed content (s ∷ rest, chain, long, (fixed, grammar, last)) =
-      let open_end = (closes_by_sets IsLinked (Fits held (s ∷ rest)) (s.n - s.m) s (last_of s rest)).1 last in
+      let open_end = (closes_by_sets IsLinked (FitsChain held (s ∷ rest)) (s.n - s.m) s (last_of s rest)).1 last in
       let more = open_end.0 in
       let is = shards s chain.1.0 in
-      let held_more = all_weaker (Fits held (s ∷ rest)) held (λ t f. f.0) more open_end.2 in
+      let held_more = all_weaker (FitsChain held (s ∷ rest)) held (λ t f. f.0) more open_end.2 in
       let count : length (rest ++ more) ≡ length rest + length more = length-append rest more in (
         s ∷ (rest ++ more),
         all_append held (s ∷ rest) more chain.1 held_more,
@@ -154,14 +154,14 @@ module _ (held : Shard → Type 0) (shards : (t : Shard) → held t → IsShard 
                 subst (λ n. IsBelowDegree n p) (length-points (s ∷ rest) ∙ long) r.2,
                 passes_all k p (s ∷ (rest ++ more))
                     (all_append (HasByte k p) (s ∷ rest) more (all_pass k p (s ∷ rest) r.3)
-                    (all_weaker (Fits held (s ∷ rest)) (HasByte k p) (λ t f. sym (f.1 k lt p r.1 r.2 r.3)) more open_end.2)),
+                    (all_weaker (FitsChain held (s ∷ rest)) (HasByte k p) (λ t f. sym (f.1 k lt p r.1 r.2 r.3)) more open_end.2)),
                 sym (value-at_zero p r.1) ∙ sym (fixed k lt p r.1 r.2 r.3),
               );
           grammar = grammar;
         },
       )
 
-  pub from_closed : (content : List ℕ) → IsClosed held content → IsFound held content
+  pub from_closed : (content : List ℕ) → IsFragmentClosed held content → IsContentFound held content
   from_closed content ([], all, ring, closes) = absurd ring
   from_closed content (s ∷ all, are_held, ring, closes) =
       let is = shards s are_held.0 in
@@ -188,7 +188,7 @@ module _ (held : Shard → Type 0) (shards : (t : Shard) → held t → IsShard 
         (
           λ k lt. subst (λ z. IsJoinAt (points_of (s ∷ rest)) (bytes_at k (s ∷ rest)) 0 z) (value-at_zero (one k lt).0 (one k lt).1 ∙ (one k lt).4) (fixes k lt 0),
           closes.grammar,
-          (closes_by_sets IsLinked (Fits held (s ∷ rest)) (s.n - s.m) s (last_of s rest)).0 (
+          (closes_by_sets IsLinked (FitsChain held (s ∷ rest)) (s.n - s.m) s (last_of s rest)).0 (
             more,
             behind,
             all_both held (λ t. IsFixed (s ∷ rest) t.x t.share) more held_parts.1

@@ -13,7 +13,7 @@ use Rattle.pot_recover.specs.Groups.{AreParts, AreLevelsOf, parts_of, shards_in,
 use Rattle.pot_recover.specs.HeldShards.{shard_of}
 use Rattle.pot_recover.specs.Rings.{need_of}
 use Rattle.pot_recover.specs.Scopes.{IsChainIn, IsFoundOf, IsFoundAmong, HasSearched}
-use Rattle.pot_recover.specs.Sets.{Fits, ClosesWith}
+use Rattle.pot_recover.specs.Sets.{FitsChain, ClosesWith}
 use Rattle.pot_recover.specs.declared.group.Group.{Group}
 use Rattle.pot_recover.proofs.GroupLemmas.{path_chain, chain_path, chains_listed, positions_same}
 use Rattle.pot_recover.proofs.MemberLemmas.{members_are, levels_front, parts_front, levels_are, length-levels}
@@ -137,12 +137,12 @@ module _ (shards group : List Shard) (m n : ℕ) (same : (s : Shard) → IsIn gr
   )
 
   -- the sets of a group are those of all
-  reached_all : (chain : List Shard) (last : Shard) (k : ℕ) (t : Shard) → IsReached IsLinked (Fits (IsIn group) chain) last k t → IsReached IsLinked (Fits (IsIn shards) chain) last k t
+  reached_all : (chain : List Shard) (last : Shard) (k : ℕ) (t : Shard) → IsReached IsLinked (FitsChain (IsIn group) chain) last k t → IsReached IsLinked (FitsChain (IsIn shards) chain) last k t
   reached_all chain last zero t h = h
   reached_all chain last (suc k) t (s, before, link, fit) = (s, reached_all chain last k s before, link, (((same t).0 fit.0).0, fit.1))
 
-  reached_group : (chain : List Shard) (last : Shard) (k : ℕ) (t : Shard) → last.m ≡ m → last.n ≡ n → IsReached IsLinked (Fits (IsIn shards) chain) last k t
-      → IsReached IsLinked (Fits (IsIn group) chain) last k t × (t.m ≡ m) × (t.n ≡ n)
+  reached_group : (chain : List Shard) (last : Shard) (k : ℕ) (t : Shard) → last.m ≡ m → last.n ≡ n → IsReached IsLinked (FitsChain (IsIn shards) chain) last k t
+      → IsReached IsLinked (FitsChain (IsIn group) chain) last k t × (t.m ≡ m) × (t.n ≡ n)
   reached_group chain last zero t em en h = (h, ap (λ (x : Shard). x.m) h ∙ em, ap (λ (x : Shard). x.n) h ∙ en)
   reached_group chain last (suc k) t em en (s, before, link, fit) =
       let r = reached_group chain last k s em en before in

@@ -33,7 +33,7 @@ use Rattle.pot_recover.specs.Held.{IsHeld}
 use Rattle.pot_split.specs.Secrecy.{rows_of}
 use Rattle.pot_split.proofs.ThresholdLaws.{rows_of-append}
 use Rattle.pot_recover.specs.Recovered.{IsClosedIn, IsRecovered, object_of}
-use Rattle.pot_recover.specs.Rings.{IsRing, Closes, points_of, bytes_at, need_of}
+use Rattle.pot_recover.specs.Rings.{IsRing, ClosesRing, points_of, bytes_at, need_of}
 use Rattle.pot_recover.specs.Robust.{IsRobustlyClosedIn}
 use Rattle.pot_recover.specs.StoredFragments.{IsAlmostHeld, StoredLaws}
 use Rattle.pot_recover.proofs.AlteredLemmas.{altered_laws}
@@ -90,7 +90,7 @@ module _ (g : Geometry) (file random : List ℕ) (i j : ℕ) (is : IsStore g fil
       (record { id = length-id g own piece.taken; two = count.0; eight = count.1; first = omega arith; last = omega (arith, within) })
       (length-part 0 928 j g.fragments fragments within (omega (arith, length-fragments g (object_in file random i) own piece)))
 
-  pub closes : Closes shards (content_in g file random i j)
+  pub closes : ClosesRing shards (content_in g file random i j)
   closes = record { places = on_one; grammar = (head, content_is) }
 
   pub robustly : (blocks : List (List ℕ)) (bits : ℕ) → IsAlmostHeld blocks bits g file random i j → IsRobustlyClosedIn blocks bits (content_in g file random i j)

@@ -1,5 +1,5 @@
 -- From the shards that are held to the objects that are recovered.
-use Rattle.std.proofs.Common.{◌≡◌, ◌↔◌, inl, inr, ℕ, ◌≤◌, min, List, [], ◌∷◌, map, length, get_or, refl, sym, ◌∙◌, subst, arith, Ok, Err}
+use Rattle.std.proofs.Common.{◌≡◌, ◌↔◌, inl, inr, ℕ, ◌≤◌, min, List, [], ◌∷◌, map, length, get_or, refl, sym, ◌∙◌, subst, arith, Ok, Err, ◌+◌, ◌-◌}
 use Rattle.std.specs.Prelude.{AllPairs, IfOk, Result, ⊤}
 use Rattle.std.specs.List.{flat_map}
 use Rattle.std.proofs.Math.Nat.{min-eq_left, min-eq_right}
@@ -13,10 +13,10 @@ use Rattle.pot_recover.specs.Counts.{IsCounted}
 use Rattle.pot_recover.specs.Groups.{IsHoldable}
 use Rattle.pot_recover.specs.Held.{IsHeld}
 use Rattle.pot_recover.specs.HeldShards.{shard_of, HaveBytes}
-use Rattle.pot_recover.specs.Recovered.{IsChoice, IsRecovered, IsClosedIn, IsBefore, AreRecovered}
-use Rattle.pot_recover.specs.Rings.{IsChain, IsClosed}
+use Rattle.pot_recover.specs.Recovered.{IsChoice, IsRecovered, IsClosedIn, IsBytesBefore, AreRecovered}
+use Rattle.pot_recover.specs.Rings.{IsShardChain, IsFragmentClosed}
 use Rattle.pot_recover.specs.Scopes.{IsChainIn, IsFoundIn, HasSearched}
-use Rattle.pot_recover.specs.Sets.{IsFound}
+use Rattle.pot_recover.specs.Sets.{IsContentFound}
 use Rattle.pot_recover.specs.Wide.{IsChainCount, IsChoiceCount, IsTooWide, IsWithin, AreFew, AreTooWide}
 use Rattle.pot_recover.specs.declared.top.RecoverFault.{RecoverFault}
 use Rattle.pot_recover.specs.declared.top.RecoverFault.TheVariants.{Wide, NoMemory}
@@ -32,11 +32,11 @@ held_holdable blocks bits held same have s h =
     let is = ((same s).0 h).2 in
     record { shard = is.shard; bytes = subst (λ (t : Shard). AreBytes t.share) r.2 (have r.0 r.1); whole = is.widths.share }
 
-chain_weaker : (P Q : Shard → Type 0) → ((s : Shard) → P s → Q s) → (c : List Shard) → IsChain P c → IsChain Q c
+chain_weaker : (P Q : Shard → Type 0) → ((s : Shard) → P s → Q s) → (c : List Shard) → IsShardChain P c → IsShardChain Q c
 chain_weaker P Q f [] h = h
 chain_weaker P Q f (s ∷ rest) h = (h.0, all_weaker P Q f (s ∷ rest) h.1, h.2, h.3)
 
-closed_weaker : (P Q : Shard → Type 0) → ((s : Shard) → P s → Q s) → (c : List ℕ) → IsClosed P c → IsClosed Q c
+closed_weaker : (P Q : Shard → Type 0) → ((s : Shard) → P s → Q s) → (c : List ℕ) → IsFragmentClosed P c → IsFragmentClosed Q c
 closed_weaker P Q f c (ring, all, is, closes) = (ring, all_weaker P Q f ring all, is, closes)
 
 module _ (blocks : List (List ℕ)) (bits : ℕ) (shards : List Shard) (same : (s : Shard) → IsIn shards s ↔ IsHeld blocks bits s)
@@ -44,31 +44,31 @@ module _ (blocks : List (List ℕ)) (bits : ℕ) (shards : List Shard) (same : (
   abbrev All : ℕ → ℕ → Type 0
   All m n = ⊤
 
-  to_chain : (c : List Shard) → IsChainIn shards All c → IsChain (IsHeld blocks bits) c
+  to_chain : (c : List Shard) → IsChainIn shards All c → IsShardChain (IsHeld blocks bits) c
   to_chain [] h = h
   to_chain (s ∷ rest) h = chain_weaker (IsIn shards) (IsHeld blocks bits) (λ t i. (same t).0 i) (s ∷ rest) h.0
 
-  from_chain : (c : List Shard) → IsChain (IsHeld blocks bits) c → IsChainIn shards All c
+  from_chain : (c : List Shard) → IsShardChain (IsHeld blocks bits) c → IsChainIn shards All c
   from_chain [] h = h
   from_chain (s ∷ rest) h = (chain_weaker (IsHeld blocks bits) (IsIn shards) (λ t i. (same t).1 i) (s ∷ rest) h, tt)
 
   -- the chains are counted
-  pub chains_counted : (count : ℕ) (found : List (List ℕ)) → HasSearched shards All 0 count [] found → count ≤ 4000000 → IsChainCount blocks bits count
-  chains_counted count found searched few = inl (
+  pub chains_counted : (most first count : ℕ) (found : List (List ℕ)) → HasSearched shards All first count [] found → first + most ≡ 4000000 → count ≤ 4000000 → IsChainCount most blocks bits (count - first)
+  chains_counted most first count found searched sum few = inl (
     (
       searched.chains.0,
-      listed_same (IsChainIn shards All) (IsChain (IsHeld blocks bits)) searched.chains.0 (λ c. (to_chain c, from_chain c)) searched.chains.1,
+      listed_same (IsChainIn shards All) (IsShardChain (IsHeld blocks bits)) searched.chains.0 (λ c. (to_chain c, from_chain c)) searched.chains.1,
       omega (arith, searched.chains.2),
     ),
-    few,
+    omega (arith, sum, few),
   )
 
-  pub chains_wide : AreAbove (IsChainIn shards All) 4000000 0 → IsChainCount blocks bits 4000001
-  chains_wide above = inr ((above.0, above.1, λ c h. to_chain c (above.2 c h), omega (arith, above.3)), refl)
+  pub chains_wide : (most first : ℕ) → first + most ≡ 4000000 → AreAbove (IsChainIn shards All) 4000000 first → IsChainCount most blocks bits (most + 1)
+  chains_wide most first sum above = inr ((above.0, above.1, λ c h. to_chain c (above.2 c h), omega (arith, sum, above.3)), refl)
 
   -- what was found is what is closed
-  pub found_closed : (count : ℕ) (found : List (List ℕ)) → HasSearched shards All 0 count [] found → (c : List ℕ) → IsIn found c ↔ IsClosedIn blocks bits c
-  found_closed count found searched c =
+  pub found_closed : (first count : ℕ) (found : List (List ℕ)) → HasSearched shards All first count [] found → (c : List ℕ) → IsIn found c ↔ IsClosedIn blocks bits c
+  found_closed first count found searched c =
       let is_shard = λ (t : Shard) (h : IsIn shards t). (holdable t h).shard in
       let bytes = λ (t : Shard) (h : IsIn shards t). (holdable t h).bytes in (
         λ h. elim ((searched.found c).0 h) [
@@ -80,14 +80,14 @@ module _ (blocks : List (List ℕ)) (bits : ℕ) (shards : List Shard) (same : (
             (searched.found c).1 (inr (w.0, chain_in w.0 w.1, w.2, w.3)),
       )
     where
-      as_found : IsFoundIn shards All c → IsFound (IsIn shards) c
+      as_found : IsFoundIn shards All c → IsContentFound (IsIn shards) c
       as_found (chain, is, long, closes) = (chain, chain_of chain is, long, closes)
         where
-          chain_of : (x : List Shard) → IsChainIn shards All x → IsChain (IsIn shards) x
+          chain_of : (x : List Shard) → IsChainIn shards All x → IsShardChain (IsIn shards) x
           chain_of [] h = h
           chain_of (s ∷ rest) h = h.0
 
-      chain_in : (x : List Shard) → IsChain (IsIn shards) x → IsChainIn shards All x
+      chain_in : (x : List Shard) → IsShardChain (IsIn shards) x → IsChainIn shards All x
       chain_in [] h = h
       chain_in (s ∷ rest) h = (h, tt)
 
@@ -146,7 +146,7 @@ counted_same P Q n same (inr (many, is)) = inr ((many.0, many.1, λ x h. (same x
 
 module _ (blocks : List (List ℕ)) (bits : ℕ) (contents : List (List ℕ)) (same : (c : List ℕ) → IsIn contents c ↔ IsClosedIn blocks bits c) where
   -- the objects are those of the blocks
-  pub are_recovered : (objects : List (List ℕ)) → ((o : List ℕ) → IsIn objects o ↔ IsRecovered (IsIn contents) o) → AllPairs IsBefore objects → AreRecovered blocks bits objects
+  pub are_recovered : (objects : List (List ℕ)) → ((o : List ℕ) → IsIn objects o ↔ IsRecovered (IsIn contents) o) → AllPairs IsBytesBefore objects → AreRecovered blocks bits objects
   are_recovered objects each order = record {
     each = λ o.
         let r = recovered_same (IsIn contents) (IsClosedIn blocks bits) same o in
@@ -157,13 +157,13 @@ module _ (blocks : List (List ℕ)) (bits : ℕ) (contents : List (List ℕ)) (s
   choices_same : (n : ℕ) → IsCounted (IsChoice (IsIn contents)) n → IsChoiceCount blocks bits n
   choices_same n = counted_same (IsChoice (IsIn contents)) (IsChoice (IsClosedIn blocks bits)) n (choice_same (IsIn contents) (IsClosedIn blocks bits) same)
 
-  pub are_within : (chains : ℕ) → IsChainCount blocks bits chains → chains ≤ 4000000 → AreFew (IsIn contents) → IsWithin blocks bits
-  are_within chains counted few (choices, number, borne) = (chains, choices, counted, choices_same choices number, few, borne)
+  pub are_within : (most chains : ℕ) → IsChainCount most blocks bits chains → chains ≤ most → AreFew (IsIn contents) → IsWithin most blocks bits
+  are_within most chains counted few (choices, number, borne) = (chains, choices, counted, choices_same choices number, few, borne)
 
-  pub are_too_wide : (chains : ℕ) (fault : RecoverFault) → IsChainCount blocks bits chains → chains ≤ 4000000 → AreTooWide (IsIn contents) chains fault → IsTooWide blocks bits fault
-  are_too_wide chains (Wide c k) counted few (is, number, wide) =
-      (subst (IsChainCount blocks bits) (sym is) counted, inr (omega (arith, is, few), choices_same k number, wide))
-  are_too_wide chains NoMemory counted few h = tt
+  pub are_too_wide : (most chains : ℕ) (fault : RecoverFault) → IsChainCount most blocks bits chains → chains ≤ most → AreTooWide (IsIn contents) chains fault → IsTooWide most blocks bits fault
+  are_too_wide most chains (Wide c k) counted few (is, number, wide) =
+      (subst (IsChainCount most blocks bits) (sym is) counted, inr (omega (arith, is, few), choices_same k number, wide))
+  are_too_wide most chains NoMemory counted few h = tt
 
 -- choices of a sorted list of contents
 pub choices_of_sorted : (old new : List (List ℕ)) (count : ℕ) → AreContents new → IsOnce new → ((c : List ℕ) → IsIn new c ↔ IsIn old c)

@@ -6,7 +6,7 @@ use Rattle.pot_bytes.specs.Lists.{AreBytes}
 use Rattle.pot_chains.specs.Paths.{AreAll}
 use Rattle.pot_recover.specs.Held.{IsHeld}
 use Rattle.pot_recover.specs.Recovered.{IsClosedIn}
-use Rattle.pot_recover.specs.Rings.{IsRing, bytes_at, need_of, Closes}
+use Rattle.pot_recover.specs.Rings.{IsRing, bytes_at, need_of, ClosesRing}
 use Rattle.pot_recover.specs.Robust.{ClosesRobustlyAsRing, IsRobustlyClosedIn}
 use Rattle.pot_robust.specs.Robust.{borne}
 use Rattle.pot_shard.specs.declared.shard.Shard.{Shard}
@@ -51,12 +51,12 @@ pub record AlteredLaws : Type 0 where
   -- with which it closed.
   pub shares : (ring altered : List Shard) (content : List ℕ) → HasOtherShares ring altered
       → altered_shares ring altered ≤ borne_of ring
-      → IsRing ring → Closes ring content → ClosesRobustlyAsRing altered content
+      → IsRing ring → ClosesRing ring content → ClosesRobustlyAsRing altered content
   -- So does one of which no more were altered at each of the 992 places: all its shares may then
   -- have wrong bytes.
   pub places : (ring altered : List Shard) (content : List ℕ) → HasOtherShares ring altered
       → ((k : ℕ) → k < 992 → distance (bytes_at k ring) (bytes_at k altered) ≤ borne_of ring)
-      → IsRing ring → Closes ring content → ClosesRobustlyAsRing altered content
+      → IsRing ring → ClosesRing ring content → ClosesRobustlyAsRing altered content
   -- A ring of held shards closes robustly with one content at most.
   pub only : (blocks : List (List ℕ)) (bits : ℕ) (ring : List Shard) (a b : List ℕ)
       → ((s : Shard) → IsHeld blocks bits s → AreBytes s.share) → AreAll (IsHeld blocks bits) ring

@@ -6,7 +6,7 @@ use Rattle.pot_chains.specs.Listed.{IsIn, IsListed}
 use Rattle.pot_chains.specs.declared.levels.Level.{Level}
 use Rattle.pot_bytes.specs.Lists.{AreBytes}
 use Rattle.pot_recover.specs.HeldShards.{shard_of, stands_at}
-use Rattle.pot_recover.specs.Rings.{IsChain}
+use Rattle.pot_recover.specs.Rings.{IsShardChain}
 use Rattle.pot_recover.specs.declared.group.Group.{Group}
 use Rattle.pot_recover.specs.declared.held.Held.{Held}
 use Rattle.pot_shard.specs.Shards.{IsShard}
@@ -88,7 +88,7 @@ pub record IsGroup (g : Group) : Type 0 where
 -- a chain of these m and n
 abbrev pub IsChainOf : List Shard → ℕ → ℕ → List Shard → Type 0
 IsChainOf shards m n [] = ⊥
-IsChainOf shards m n (s ∷ rest) = IsChain (IsIn shards) (s ∷ rest) × (s.m ≡ m) × (s.n ≡ n)
+IsChainOf shards m n (s ∷ rest) = IsShardChain (IsIn shards) (s ∷ rest) × (s.m ≡ m) × (s.n ≡ n)
 
 -- a chain of m of n held shards
 pub record IsWholeChain (shards : List Shard) (m n bits : ℕ) (chain : List Shard) : Type 0 where

@@ -3,10 +3,10 @@
 use Rattle.std.specs.Prelude.{◌≡◌, ◌↔◌, ◌<◌, ◌≤◌, ◌⊎◌, ℕ, List, [], ◌∷◌, length, AllPairs}
 use Rattle.pot_chains.specs.Listed.{IsIn}
 use Rattle.pot_chains.specs.Paths.{AreLinked, AreAll}
-use Rattle.pot_recover.specs.Counts.{widest, IsCounted}
+use Rattle.pot_recover.specs.Counts.{widest, IsCounted, IsCountedTo}
 use Rattle.pot_recover.specs.Held.{IsHeld}
-use Rattle.pot_recover.specs.Recovered.{IsBefore, IsChoice, IsRecovered}
-use Rattle.pot_recover.specs.Rings.{need_of, Closes}
+use Rattle.pot_recover.specs.Recovered.{IsBytesBefore, IsChoice, IsRecovered}
+use Rattle.pot_recover.specs.Rings.{need_of, ClosesRing}
 use Rattle.pot_recover.specs.declared.top.RecoverFault.{RecoverFault}
 use Rattle.pot_recover.specs.declared.top.RecoverFault.TheVariants.{Wide, NoMemory}
 use Rattle.pot_shard.specs.LinkedRings.{IsLinked}
@@ -24,7 +24,7 @@ IsOpenChain held (s ∷ rest) =
 abbrev pub IsOpenFragment : (Shard → Type 0) → List ℕ → Type 0
 IsOpenFragment held content =
     (chain : List Shard) × IsOpenChain held chain × (length chain ≡ need_of chain)
-    × Closes chain content
+    × ClosesRing chain content
 
 abbrev pub IsOpenFragmentIn : List (List ℕ) → ℕ → List ℕ → Type 0
 IsOpenFragmentIn blocks bits = IsOpenFragment (IsHeld blocks bits)
@@ -34,20 +34,20 @@ pub record AreOpenlyRecovered (blocks : List (List ℕ)) (bits : ℕ) (objects :
     0 where
   pub each : (object : List ℕ)
       → IsIn objects object ↔ IsRecovered (IsOpenFragmentIn blocks bits) object
-  pub order : AllPairs IsBefore objects
+  pub order : AllPairs IsBytesBefore objects
 
 -- the two counts, in the order of the plain recovery
-abbrev pub IsOpenlyTooWide : List (List ℕ) → ℕ → RecoverFault → Type 0
-IsOpenlyTooWide blocks bits (Wide chains choices) =
-    IsCounted (IsOpenChain (IsHeld blocks bits)) chains
-    × (((widest < chains) × (choices ≡ 0))
-    ⊎ ((chains ≤ widest) × IsCounted (IsChoice (IsOpenFragmentIn blocks bits)) choices
+abbrev pub IsOpenlyTooWide : ℕ → List (List ℕ) → ℕ → RecoverFault → Type 0
+IsOpenlyTooWide most blocks bits (Wide chains choices) =
+    IsCountedTo most (IsOpenChain (IsHeld blocks bits)) chains
+    × (((most < chains) × (choices ≡ 0))
+    ⊎ ((chains ≤ most) × IsCounted (IsChoice (IsOpenFragmentIn blocks bits)) choices
     × (widest < choices)))
-IsOpenlyTooWide blocks bits NoMemory = Unit {0}
+IsOpenlyTooWide most blocks bits NoMemory = Unit {0}
 
 -- both counts are borne
-abbrev pub IsOpenlyWithin : List (List ℕ) → ℕ → Type 0
-IsOpenlyWithin blocks bits =
-    (chains : ℕ) × (choices : ℕ) × IsCounted (IsOpenChain (IsHeld blocks bits)) chains
+abbrev pub IsOpenlyWithin : ℕ → List (List ℕ) → ℕ → Type 0
+IsOpenlyWithin most blocks bits =
+    (chains : ℕ) × (choices : ℕ) × IsCountedTo most (IsOpenChain (IsHeld blocks bits)) chains
     × IsCounted (IsChoice (IsOpenFragmentIn blocks bits)) choices
-    × (chains ≤ widest) × (choices ≤ widest)
+    × (chains ≤ most) × (choices ≤ widest)

@@ -5,7 +5,7 @@ use Rattle.pot_chains.specs.Listed.{IsIn, IsListed, HasGrown}
 use Rattle.pot_recover.specs.Groups.{AreInside, AreLevelsOf, IsAt, IsHoldable, parts_of, shards_at}
 use Rattle.pot_recover.specs.Open.{IsOpenChain}
 use Rattle.pot_recover.specs.Points.{ArePoints}
-use Rattle.pot_recover.specs.Rings.{need_of, points_of, Closes}
+use Rattle.pot_recover.specs.Rings.{need_of, points_of, ClosesRing}
 use Rattle.pot_recover.specs.declared.group.Group.{Group}
 use Rattle.pot_recover.specs.declared.window.Start.{Start}
 use Rattle.pot_shard.specs.declared.shard.Shard.{Shard}
@@ -48,12 +48,12 @@ IsOpenChainIn shards scope (s ∷ rest) = IsOpenChain (IsIn shards) (s ∷ rest)
 abbrev pub IsOpenlyFound : List Shard → (Shard → Type 0) → List ℕ → Type 0
 IsOpenlyFound shards scope c =
     (chain : List Shard) × IsOpenChainIn shards scope chain × (length chain ≡ need_of chain)
-    × Closes chain c
+    × ClosesRing chain c
 
 -- a content that the shards at one of these positions give
 abbrev pub IsGivenAmong : List (List Shard) → List (List ℕ) → List ℕ → Type 0
 IsGivenAmong parts chains c =
-    (path : List ℕ) × IsIn chains path × Closes (shards_at parts path) c
+    (path : List ℕ) × IsIn chains path × ClosesRing (shards_at parts path) c
 
 -- the chains that begin so are counted, and what they give was added
 pub record HasSearchedOpen (shards : List Shard) (scope : Shard → Type 0) (before now : ℕ)
@@ -75,7 +75,7 @@ AreJoinable parts chains =
     (path : List ℕ) → IsIn chains path → AreInside parts path × IsJoinable (shards_at parts path)
 
 -- m, n and a first point that shards may have
-pub record IsStart (start : Start) : Type 0 where
+pub record IsOpenStart (start : Start) : Type 0 where
   pub some : 1 ≤ start.need
   pub few : start.need ≤ start.shards
   pub small : start.shards ≤ 16

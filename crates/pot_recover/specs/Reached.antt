@@ -9,8 +9,8 @@ abbrev pub name_of : Held → ℕ
 name_of s = s.name
 
 -- candidates that stand among so many
-abbrev pub IsWithin : ℕ → List Named → Type 0
-IsWithin count candidates = (e : Named) → IsIn candidates e → e.position < count
+abbrev pub AreWithinCount : ℕ → List Named → Type 0
+AreWithinCount count candidates = (e : Named) → IsIn candidates e → e.position < count
 
 -- p is the pointer of a candidate that holds this share
 abbrev pub IsHit : List Held → List ℕ → List Named → ℕ → Type 0

@@ -9,9 +9,9 @@ use Rattle.pot_shard.specs.declared.shard.Shard.{Shard}
 
 -- A chain is a list of 1 to m held shards that begins at x = 1, in which each is linked to the
 -- next, m being that of its shards.
-abbrev pub IsChain : (Shard → Type 0) → List Shard → Type 0
-IsChain held [] = ⊥
-IsChain held (s ∷ rest) =
+abbrev pub IsShardChain : (Shard → Type 0) → List Shard → Type 0
+IsShardChain held [] = ⊥
+IsShardChain held (s ∷ rest) =
     (s.x ≡ 1) × AreAll held (s ∷ rest) × AreLinked IsLinked s rest × (length (s ∷ rest) ≤ s.m)
 
 -- A ring is n shards that begin at x = 1, each linked to the next and the last to the first.
@@ -40,11 +40,11 @@ IsAnyContent content = (h : FragmentHead) × IsContent h content
 -- A ring closes with a content where at each of the 992 places its shares lie on one polynomial of
 -- degree below m, whose constant term is that byte of the content, and the content is in the
 -- grammar.
-pub record Closes (ring : List Shard) (content : List ℕ) : Type 0 where
+pub record ClosesRing (ring : List Shard) (content : List ℕ) : Type 0 where
   pub places : (k : ℕ) → k < 992
       → IsOnOne (need_of ring) (points_of ring) (bytes_at k ring) (slice_index content k)
   pub grammar : IsAnyContent content
 
 -- A closed fragment is a content with which a ring of held shards closes.
-abbrev pub IsClosed : (Shard → Type 0) → List ℕ → Type 0
-IsClosed held content = (ring : List Shard) × AreAll held ring × IsRing ring × Closes ring content
+abbrev pub IsFragmentClosed : (Shard → Type 0) → List ℕ → Type 0
+IsFragmentClosed held content = (ring : List Shard) × AreAll held ring × IsRing ring × ClosesRing ring content

@@ -3,10 +3,10 @@ use Rattle.std.specs.Prelude.{◌≡◌, ◌↔◌, ◌<◌, ◌≤◌, ◌⊎�
 use Rattle.std.specs.Prelude.{slice_index, AllPairs}
 use Rattle.pot_chains.specs.Listed.{IsIn}
 use Rattle.pot_chains.specs.Paths.{AreLinked, AreAll}
-use Rattle.pot_recover.specs.Counts.{widest, IsCounted}
+use Rattle.pot_recover.specs.Counts.{widest, IsCounted, IsCountedTo}
 use Rattle.pot_recover.specs.Held.{IsHeld}
 use Rattle.pot_recover.specs.HeldShards.{point_of, bytes_held}
-use Rattle.pot_recover.specs.Recovered.{IsBefore, IsChoice, IsRecovered}
+use Rattle.pot_recover.specs.Recovered.{IsBytesBefore, IsChoice, IsRecovered}
 use Rattle.pot_recover.specs.Rings.{IsRing, points_of, bytes_at, need_of, IsAnyContent}
 use Rattle.pot_recover.specs.declared.held.Held.{Held}
 use Rattle.pot_recover.specs.declared.top.RecoverFault.{RecoverFault}
@@ -41,7 +41,7 @@ pub record AreRobustlyRecovered (blocks : List (List ℕ)) (bits : ℕ) (objects
     0 where
   pub each : (object : List ℕ)
       → IsIn objects object ↔ IsRecovered (IsRobustlyClosedIn blocks bits) object
-  pub order : AllPairs IsBefore objects
+  pub order : AllPairs IsBytesBefore objects
 
 -- A chain here is a list of 1 to n held shards that begins at x = 1, in which each is linked to the
 -- next.
@@ -55,20 +55,20 @@ abbrev pub ClosesRobustlyAsRing : List Shard → List ℕ → Type 0
 ClosesRobustlyAsRing chain content = IsRing chain × ClosesRobustly chain content
 
 -- the two counts, in the order of the plain recovery
-abbrev pub IsRobustlyTooWide : List (List ℕ) → ℕ → RecoverFault → Type 0
-IsRobustlyTooWide blocks bits (Wide chains choices) =
-    IsCounted (IsLongChain (IsHeld blocks bits)) chains
-    × (((widest < chains) × (choices ≡ 0))
-    ⊎ ((chains ≤ widest) × IsCounted (IsChoice (IsRobustlyClosedIn blocks bits)) choices
+abbrev pub IsRobustlyTooWide : ℕ → List (List ℕ) → ℕ → RecoverFault → Type 0
+IsRobustlyTooWide most blocks bits (Wide chains choices) =
+    IsCountedTo most (IsLongChain (IsHeld blocks bits)) chains
+    × (((most < chains) × (choices ≡ 0))
+    ⊎ ((chains ≤ most) × IsCounted (IsChoice (IsRobustlyClosedIn blocks bits)) choices
     × (widest < choices)))
-IsRobustlyTooWide blocks bits NoMemory = Unit {0}
+IsRobustlyTooWide most blocks bits NoMemory = Unit {0}
 
 -- both counts are borne
-abbrev pub IsRobustlyWithin : List (List ℕ) → ℕ → Type 0
-IsRobustlyWithin blocks bits =
-    (chains : ℕ) × (choices : ℕ) × IsCounted (IsLongChain (IsHeld blocks bits)) chains
+abbrev pub IsRobustlyWithin : ℕ → List (List ℕ) → ℕ → Type 0
+IsRobustlyWithin most blocks bits =
+    (chains : ℕ) × (choices : ℕ) × IsCountedTo most (IsLongChain (IsHeld blocks bits)) chains
     × IsCounted (IsChoice (IsRobustlyClosedIn blocks bits)) choices
-    × (chains ≤ widest) × (choices ≤ widest)
+    × (chains ≤ most) × (choices ≤ widest)
 
 -- what the shares of a ring give at 0, from the place `start` on
 abbrev pub AreRobust : ℕ → List Held → ℕ → List ℕ → Type 0

@@ -2,14 +2,14 @@
 use Rattle.std.specs.Prelude.{◌≡◌, ◌↔◌, ◌⊎◌, ℕ, List, [], ◌∷◌, length}
 use Rattle.pot_chains.specs.Listed.{IsIn, HasGrown}
 use Rattle.pot_recover.specs.Groups.{IsChainOf, shards_at}
-use Rattle.pot_recover.specs.Rings.{IsChain, need_of}
+use Rattle.pot_recover.specs.Rings.{IsShardChain, need_of}
 use Rattle.pot_recover.specs.Sets.{ClosesWith}
 use Rattle.pot_shard.specs.declared.shard.Shard.{Shard}
 
 -- a chain of held shards whose m and n are among these
 abbrev pub IsChainIn : List Shard → (ℕ → ℕ → Type 0) → List Shard → Type 0
 IsChainIn shards scope [] = ⊥
-IsChainIn shards scope (s ∷ rest) = IsChain (IsIn shards) (s ∷ rest) × scope s.m s.n
+IsChainIn shards scope (s ∷ rest) = IsShardChain (IsIn shards) (s ∷ rest) × scope s.m s.n
 
 -- a content that such a chain of m shards closes with
 abbrev pub IsFoundIn : List Shard → (ℕ → ℕ → Type 0) → List ℕ → Type 0

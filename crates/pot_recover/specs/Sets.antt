@@ -9,7 +9,7 @@ use Rattle.pot_bytes.specs.Lists.{AreBytes}
 use Rattle.pot_shard.specs.LinkedRings.{IsLinked}
 use Rattle.pot_shard.specs.declared.shard.Shard.{Shard}
 use Rattle.pot_recover.specs.Held.{IsHeld}
-use Rattle.pot_recover.specs.Rings.{points_of, bytes_at, need_of, IsChain, IsAnyContent}
+use Rattle.pot_recover.specs.Rings.{points_of, bytes_at, need_of, IsShardChain, IsAnyContent}
 use Rattle.pot_recover.specs.Recovered.{IsClosedIn}
 
 -- What the shares of some shards fix at the point y: at each place the value there of the
@@ -19,14 +19,14 @@ IsFixed chain y share =
     (k : ℕ) → k < 992 → IsJoinAt (points_of chain) (bytes_at k chain) y (slice_index share k)
 
 -- a held shard that holds what the chain fixes at its point
-abbrev pub Fits : (Shard → Type 0) → List Shard → Shard → Type 0
-Fits held chain t = held t × IsFixed chain t.x t.share
+abbrev pub FitsChain : (Shard → Type 0) → List Shard → Shard → Type 0
+FitsChain held chain t = held t × IsFixed chain t.x t.share
 
 -- of the sets past a chain the last has a shard that is linked to the first of the chain
 abbrev pub ReturnsTo : (Shard → Type 0) → List Shard → Type 0
 ReturnsTo held [] = ⊥
 ReturnsTo held (s ∷ rest) =
-    (t : Shard) × IsReached IsLinked (Fits held (s ∷ rest)) (last_of s rest) (s.n - s.m) t
+    (t : Shard) × IsReached IsLinked (FitsChain held (s ∷ rest)) (last_of s rest) (s.n - s.m) t
     × IsLinked t s
 
 -- a ring that begins with this chain closes with this content
@@ -36,21 +36,21 @@ ClosesWith held chain content =
 
 -- A content is found where a chain of m held shards fixes it at 0, it is in the grammar, and of the
 -- sets past the chain the last has a shard that is linked to the first of the chain.
-abbrev pub IsFound : (Shard → Type 0) → List ℕ → Type 0
-IsFound held content =
-    (chain : List Shard) × IsChain held chain × (length chain ≡ need_of chain)
+abbrev pub IsContentFound : (Shard → Type 0) → List ℕ → Type 0
+IsContentFound held content =
+    (chain : List Shard) × IsShardChain held chain × (length chain ≡ need_of chain)
     × ClosesWith held chain content
 
 -- What is found is just what is closed.
 pub record RingLaws : Type 0 where
   pub found : (blocks : List (List ℕ)) (bits : ℕ) (content : List ℕ)
       → ((s : Shard) → IsHeld blocks bits s → AreBytes s.share)
-      → IsFound (IsHeld blocks bits) content ↔ IsClosedIn blocks bits content
+      → IsContentFound (IsHeld blocks bits) content ↔ IsClosedIn blocks bits content
 
 -- p is the pointer of a shard of the set of k steps
 abbrev pub IsPointed : (Shard → Type 0) → List Shard → Shard → ℕ → ℕ → Type 0
 IsPointed held chain last k p =
-    (t : Shard) × IsReached IsLinked (Fits held chain) last k t × (t.pointer ≡ p)
+    (t : Shard) × IsReached IsLinked (FitsChain held chain) last k t × (t.pointer ≡ p)
 
 -- p is the pointer of a held shard of these m, n and blur at the point x, which holds the fixed
 -- share and whose blurred name is an old pointer

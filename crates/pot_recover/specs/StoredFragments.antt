@@ -7,7 +7,7 @@ use Rattle.pot_object.specs.Pieces.{pieces_of}
 use Rattle.pot_recover.specs.Altered.{HasOtherShares, altered_shares}
 use Rattle.pot_recover.specs.Held.{IsHeld}
 use Rattle.pot_recover.specs.Recovered.{IsClosedIn, IsRecovered}
-use Rattle.pot_recover.specs.Rings.{IsRing, Closes}
+use Rattle.pot_recover.specs.Rings.{IsRing, ClosesRing}
 use Rattle.pot_recover.specs.Robust.{IsRobustlyClosedIn}
 use Rattle.pot_robust.specs.Robust.{borne}
 use Rattle.pot_shard.specs.FileLaws.{IsStore, content_in, object_in, shards_in}
@@ -29,7 +29,7 @@ pub record StoredLaws : Type 0 where
   pub closes : (g : Geometry) (file random : List ℕ) (i j : ℕ) → IsStore g file random
       → i < pieces_of (length file) → j < g.fragments
       → IsRing (shards_in g file random i j)
-      × Closes (shards_in g file random i j) (content_in g file random i j)
+      × ClosesRing (shards_in g file random i j) (content_in g file random i j)
   -- where blocks almost hold them they give this content robustly
   pub robustly : (g : Geometry) (file random : List ℕ) (i j : ℕ) → IsStore g file random
       → i < pieces_of (length file) → j < g.fragments

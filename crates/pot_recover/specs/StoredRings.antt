@@ -1,7 +1,7 @@
 -- The rings that are stored are the rings that recovery speaks of.
 use Rattle.std.specs.Prelude.{◌≡◌, ◌↔◌, ◌≤◌, ℕ, List, length}
 use Rattle.pot_recover.specs.Rings.{IsRing}
-use Rattle.pot_shard.specs.LinkedRings.{IsRing as IsStoredRing}
+use Rattle.pot_shard.specs.LinkedRings.{IsLinkedRing as IsStoredRing}
 use Rattle.pot_shard.specs.declared.shard.Shard.{Shard}
 
 -- Shards at the points 1 to n, each linked to the one at the next point, are a ring of n shards.

@@ -18,7 +18,8 @@ use pot_joins::share_at;
 use pot_pointer::blur;
 use std::alloc::Global;
 
-/// Adds the content with which the ring closes that begins with this chain of m shards, where it closes.
+/// Adds the content with which the ring closes that begins with this chain of m shards, where it
+/// closes.
 pub(crate) fn add_closed(
     alloc: Global,
     group: &Group,
@@ -117,7 +118,8 @@ fn push_shard<'b>(chain: &mut Vec<Held<'b>>, held: &Held<'b>) -> Result<(), NoMe
     }
 }
 
-/// Whether the ring of a chain closes: whether of the sets past it the last has a shard that is linked to its first.
+/// Whether the ring of a chain closes: whether of the sets past it the last has a shard that is
+/// linked to its first.
 fn returns_to_first(alloc: Global, group: &Group, chain: &[Held]) -> Result<bool, NoMemory>
     requires group { IsGroup group.now }
     requires chain { IsWholeChain (shards_in group.now) group.now.need
@@ -135,7 +137,8 @@ fn returns_to_first(alloc: Global, group: &Group, chain: &[Held]) -> Result<bool
     Ok(pointers.contains(&blur(chain[0].name, group.bits)))
 }
 
-/// The pointers of the shards of a point that hold what the chain fixes there and that one of these pointers means.
+/// The pointers of the shards of a point that hold what the chain fixes there and that one of these
+/// pointers means.
 fn pointers_at(
     alloc: Global,
     group: &Group,

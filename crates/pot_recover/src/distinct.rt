@@ -15,8 +15,8 @@ pub(crate) fn sort_distinct<const N: usize>(lists: &mut Vec<[u8; N]>)
     lists.dedup();
 }
 
-/// Adds a list of bytes. Where there is no room, what stands there twice is dropped first, so that there is room for no
-/// more than twice the distinct ones.
+/// Adds a list of bytes. Where there is no room, what stands there twice is dropped first, so that
+/// there is room for no more than twice the distinct ones.
 pub(crate) fn push_distinct<const N: usize>(
     lists: &mut Vec<[u8; N]>,
     list: [u8; N],

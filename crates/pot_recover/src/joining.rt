@@ -27,7 +27,8 @@ pub(crate) fn first_points(count: usize) -> &'static [u8]
 
 /// The content that the shares of a chain mean, where they mean one.
 ///
-/// The number, the count and the zeros behind them are joined first: few chains that mean none are joined whole.
+/// The number, the count and the zeros behind them are joined first: few chains that mean none are
+/// joined whole.
 pub(crate) fn content_of(alloc: Global, chain: &[Held]) -> Result<Option<[u8; 992]>, NoMemory>
     requires some { 0 < length chain.now }
     requires few { length chain.now ≤ 16 }
@@ -65,7 +66,8 @@ fn whole_content(alloc: Global, chain: &[Held]) -> Result<Option<[u8; 992]>, NoM
     }
 }
 
-/// What the shares of a chain mean at the places from `start` on: the values at 0 of the polynomials through them.
+/// What the shares of a chain mean at the places from `start` on: the values at 0 of the
+/// polynomials through them.
 fn join_places(alloc: Global, chain: &[Held], start: usize, out: &mut [u8]) -> Result<(), NoMemory>
     requires some { 0 < length chain.now }
     requires few { length chain.now ≤ 16 }

@@ -25,14 +25,14 @@ pub fn open_laws()
     ensures { OpenLaws }
 {}
 
-/// A ring of which no more shares were altered than may be wrong closes robustly with what it closed with, and with
-/// nothing else.
+/// A ring of which no more shares were altered than may be wrong closes robustly with what it
+/// closed with, and with nothing else.
 pub fn altered_laws()
     ensures { AlteredLaws }
 {}
 
-/// A fragment as it is stored closes with its content, so that its file's objects come back, and robustly too where few
-/// of its shares were altered.
+/// A fragment as it is stored closes with its content, so that its file's objects come back, and
+/// robustly too where few of its shares were altered.
 pub fn stored_laws()
     ensures { StoredLaws }
 {}

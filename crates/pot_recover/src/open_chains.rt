@@ -6,8 +6,9 @@ ghost use Rattle.pot_shard.specs.declared.shard.Shard.{Shard};
 ghost use Rattle.pot_recover.specs.Groups.{parts_of, shards_at, AreInside, IsHoldable};
 ghost use Rattle.pot_recover.specs.HeldShards.{shard_of, PlacesRise};
 ghost use Rattle.pot_recover.specs.OpenScopes.{AreJoinable, BeginsAt, HasSearchedOpen};
-ghost use Rattle.pot_recover.specs.OpenScopes.{IsGivenAmong, IsJoinable, IsOpenChainIn, IsStart};
-ghost use Rattle.pot_recover.specs.Rings.{Closes};
+ghost use Rattle.pot_recover.specs.OpenScopes.{IsGivenAmong, IsJoinable, IsOpenChainIn};
+ghost use Rattle.pot_recover.specs.OpenScopes.{IsOpenStart};
+ghost use Rattle.pot_recover.specs.Rings.{ClosesRing};
 
 use crate::closing::chain_at;
 use crate::distinct::push_distinct;
@@ -133,7 +134,7 @@ fn add_from(
     count: &mut usize,
     found: &mut Vec<[u8; 992]>,
 ) -> Result<(), SearchFault>
-    requires start { IsStart start }
+    requires start { IsOpenStart start }
     requires bits { bits ≤ 63 }
     requires order { PlacesRise held.now }
     requires short { length held.now < 2 ^ 32 }
@@ -211,7 +212,7 @@ fn add_open(
         ((c : List ℕ)
         → IsIn found.new.items c
         ↔ (IsIn found.old.items c
-        ⊎ Closes (shards_at (parts_of window.now.bits window.now.parts.items) positions.now) c)) }
+        ⊎ ClosesRing (shards_at (parts_of window.now.bits window.now.parts.items) positions.now) c)) }
 {
     let chain = chain_at(alloc, window, positions)?;
     add_joined(alloc, window.bits, &chain, found)
@@ -228,7 +229,7 @@ fn add_joined(
     ensures { OnOk result
         ((c : List ℕ)
         → IsIn found.new.items c
-        ↔ (IsIn found.old.items c ⊎ Closes (map (shard_of bits) chain.now) c)) }
+        ↔ (IsIn found.old.items c ⊎ ClosesRing (map (shard_of bits) chain.now) c)) }
 {
     match content_of(alloc, chain)? {
         Some(content) => push_distinct(found, content),

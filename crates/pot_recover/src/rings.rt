@@ -18,8 +18,8 @@ use std::alloc::Global;
 /// How many chains are borne, and how many choices.
 pub(crate) const WIDEST: usize = 4_000_000;
 
-/// The contents with which the rings of these shards close, some of them more than once. `count` becomes the number of
-/// their chains.
+/// The contents with which the rings of these shards close, some of them more than once. `count`
+/// becomes the number of their chains.
 pub(crate) fn closed_contents(
     alloc: Global,
     held: &[Held],

@@ -56,8 +56,8 @@ fn robust_byte(ring: &[Held], need: u8, place: usize) -> Option<u8>
     }
 }
 
-/// Fills a buffer with what the shares of a ring give at the places from `start` on. False where they give nothing at
-/// one of them.
+/// Fills a buffer with what the shares of a ring give at the places from `start` on. False where
+/// they give nothing at one of them.
 fn fill_robust(ring: &[Held], need: u8, start: usize, into: &mut [u8]) -> bool
     requires some { 1 ≤ need }
     requires enough { need ≤ length ring.now }
@@ -78,8 +78,8 @@ fn fill_robust(ring: &[Held], need: u8, start: usize, into: &mut [u8]) -> bool
     true
 }
 
-/// Whether a ring may close robustly with a content: whether its shares give a number, a count and zeros at the places
-/// 16 to 31. Few rings that close with none pass.
+/// Whether a ring may close robustly with a content: whether its shares give a number, a count and
+/// zeros at the places 16 to 31. Few rings that close with none pass.
 fn may_close(ring: &[Held], need: u8) -> bool
     requires some { 1 ≤ need }
     requires enough { need ≤ length ring.now }

@@ -17,8 +17,8 @@ use pot_bytes::NoMemory;
 use pot_chains::{Chain, SearchFault, paths};
 use std::alloc::Global;
 
-/// The contents with which the rings of these shards close robustly, some of them more than once. `count` becomes the
-/// number of their chains of 1 to n.
+/// The contents with which the rings of these shards close robustly, some of them more than once.
+/// `count` becomes the number of their chains of 1 to n.
 pub(crate) fn robust_contents(
     alloc: Global,
     held: &[Held],

@@ -1,15 +1,15 @@
 ghost use Rattle.std.specs.Prelude.{◌≡◌, ◌↔◌, ◌<◌, ◌≤◌, ◌⊎◌, ℕ, map, length, IfOk, OnOk};
 ghost use Rattle.pot_pointer.specs.declared.Named.{Named};
 ghost use Rattle.pot_chains.specs.Listed.{IsIn};
-ghost use Rattle.pot_recover.specs.Reached.{name_of, IsHit, IsNextPointer, IsWithin};
+ghost use Rattle.pot_recover.specs.Reached.{name_of, IsHit, IsNextPointer, AreWithinCount};
 
 use crate::held::Held;
 use pot_bytes::NoMemory;
 use pot_pointer::{Named, RegionIndex};
 use std::alloc::Global;
 
-/// The pointers, in order and each once, of the shards of a point that hold this share and that one of these pointers
-/// means.
+/// The pointers, in order and each once, of the shards of a point that hold this share and that one
+/// of these pointers means.
 ///
 /// Where the pointers that come in are distinct, the work is at most the number of shards there.
 pub(crate) fn next_pointers(
@@ -42,7 +42,7 @@ fn push_hits(
     there: &[Held],
     share: &[u8],
 ) -> Result<(), NoMemory>
-    requires { IsWithin (length there.now) candidates.now }
+    requires { AreWithinCount (length there.now) candidates.now }
     ensures { OnOk result
         ((p : ℕ) → IsIn found.new.items p
         ↔ (IsIn found.old.items p ⊎ IsHit there.now share.now candidates.now p)) }

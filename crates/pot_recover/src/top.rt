@@ -1,11 +1,11 @@
-ghost use Rattle.std.specs.Prelude.{◌≡◌, ◌↔◌, ◌<◌, ◌≤◌, ◌^◌, ℕ, List, [], length, IsTrue, IfOk};
+ghost use Rattle.std.specs.Prelude.{◌≡◌, ◌↔◌, ◌<◌, ◌≤◌, ◌+◌, ◌^◌, ℕ, List, [], length, IsTrue, IfOk};
 ghost use Rattle.std.specs.Prelude.{IfErr, OnOk, AllPairs};
 ghost use Rattle.std.specs.List.{position, slice_index_or};
 ghost use Rattle.pot_chains.specs.Listed.{IsIn};
 ghost use Rattle.pot_recover.specs.Choices.{AreContents};
 ghost use Rattle.pot_recover.specs.Fronts.{has_front};
 ghost use Rattle.pot_recover.specs.Open.{AreOpenlyRecovered, IsOpenlyTooWide, IsOpenlyWithin};
-ghost use Rattle.pot_recover.specs.Recovered.{AreRecovered, IsBefore, IsChoice, IsRecovered};
+ghost use Rattle.pot_recover.specs.Recovered.{AreRecovered, IsBytesBefore, IsChoice, IsRecovered};
 ghost use Rattle.pot_recover.specs.Robust.{AreRobustlyRecovered, IsRobustlyTooWide};
 ghost use Rattle.pot_recover.specs.Robust.{IsRobustlyWithin};
 ghost use Rattle.pot_recover.specs.Wide.{IsTooWide, IsWithin, AreFew, AreTooWide};
@@ -25,8 +25,9 @@ use std::marker::Model;
 /// Why nothing is recovered.
 #[derive(Clone, Copy, PartialEq, Eq, Debug)]
 pub enum RecoverFault {
-    /// There are more than 4,000,000 chains, or as many choices. Each is counted to 4,000,001, and the choices only where
-    /// the chains are no more than the limit: they are else reported as 0.
+    /// There are more chains than the call bears, or more than 4,000,000 choices. Each is counted
+    /// to one more than is borne. Choices are counted only where the chains are borne, and are else
+    /// reported as 0.
     Wide { chains: u32, choices: u32 },
     NoMemory,
 }
@@ -73,8 +74,8 @@ impl Recovered {
         &self.objects.as_slice()[at]
     }
 
-    /// The place of the first object that begins with these bytes: a file id, a piece, a number of pieces and a length, as
-    /// they stand in an object.
+    /// The place of the first object that begins with these bytes: a file id, a piece, a number of
+    /// pieces and a length, as they stand in an object.
     pub fn first_with(&self, front: &[u8; 32]) -> Option<usize>
         ensures { result ≡ position (has_front front.now) self.now }
     {
@@ -82,58 +83,74 @@ impl Recovered {
     }
 }
 
-/// The objects that these blocks give: those of each choice of one closed fragment for each number, where their XOR is an
-/// object. Only shards of this blur take part, and equal blocks count once.
+/// The objects that these blocks give: those of each choice of one closed fragment for each number,
+/// where their XOR is an object. Only shards of this blur take part, and equal blocks count once.
 ///
-/// The work is that of the chains, each extended by the candidates of its pointer alone, and of the choices.
-pub fn recover(alloc: Global, blocks: &[Block], bits: u8) -> Result<Recovered, RecoverFault>
+/// The work is that of the chains, each extended by the candidates of its pointer alone, and of the
+/// choices. No more than `most` chains are followed: a few forged blocks can make millions of them.
+pub fn recover(
+    alloc: Global,
+    blocks: &[Block],
+    bits: u8,
+    most: u32,
+) -> Result<Recovered, RecoverFault>
     requires bits { bits ≤ 63 }
+    requires most { most ≤ 4000000 }
     requires few { length blocks.now < 2 ^ 32 }
 
     // Exactly what the definition calls recovered, in byte order.
     ensures objects { IfOk result (λ objects. AreRecovered blocks.now bits objects) }
 
-    // Both counts are no more than the limit.
-    ensures within { OnOk result (IsWithin blocks.now bits) }
-    ensures wide { IfErr result (λ fault. IsTooWide blocks.now bits fault) }
+    // Both counts are borne.
+    ensures within { OnOk result (IsWithin most blocks.now bits) }
+    ensures wide { IfErr result (λ fault. IsTooWide most blocks.now bits fault) }
 {
     let Ok(held) = held_in(alloc, blocks, bits) else {
         return Err(RecoverFault::NoMemory);
     };
-    let mut chains = 0;
-    match closed_contents(alloc, &held, bits, &mut chains) {
-        Ok(contents) => from_contents(alloc, contents, chains),
+    let first = first_count(most);
+    let mut count = first;
+    match closed_contents(alloc, &held, bits, &mut count) {
+        Ok(contents) => from_contents(alloc, contents, count - first),
         Err(SearchFault::Wide) => Err(RecoverFault::Wide {
-            chains: 4_000_001,
+            chains: most + 1,
             choices: 0,
         }),
         Err(SearchFault::NoMemory) => Err(RecoverFault::NoMemory),
     }
 }
 
-/// The same over rings some of whose shares may be wrong: half of those beyond m of each ring, rounded down. Names and
-/// pointers have to be as they were written.
+/// The same over rings some of whose shares may be wrong: half of those beyond m of each ring,
+/// rounded down. Names and pointers have to be as they were written.
 ///
-/// The work is that of the chains of 1 to n, each extended by the candidates of its pointer alone, and of the choices.
-pub fn recover_robust(alloc: Global, blocks: &[Block], bits: u8) -> Result<Recovered, RecoverFault>
+/// The work is that of the chains of 1 to n, each extended by the candidates of its pointer alone,
+/// and of the choices.
+pub fn recover_robust(
+    alloc: Global,
+    blocks: &[Block],
+    bits: u8,
+    most: u32,
+) -> Result<Recovered, RecoverFault>
     requires bits { bits ≤ 63 }
+    requires most { most ≤ 4000000 }
     requires few { length blocks.now < 2 ^ 32 }
 
     // Exactly what the definition calls robustly recovered, in byte order.
     ensures objects { IfOk result (λ objects. AreRobustlyRecovered blocks.now bits objects) }
 
-    // Both counts are no more than the limit.
-    ensures within { OnOk result (IsRobustlyWithin blocks.now bits) }
-    ensures wide { IfErr result (λ fault. IsRobustlyTooWide blocks.now bits fault) }
+    // Both counts are borne.
+    ensures within { OnOk result (IsRobustlyWithin most blocks.now bits) }
+    ensures wide { IfErr result (λ fault. IsRobustlyTooWide most blocks.now bits fault) }
 {
     let Ok(held) = held_in(alloc, blocks, bits) else {
         return Err(RecoverFault::NoMemory);
     };
-    let mut chains = 0;
-    match robust_contents(alloc, &held, bits, &mut chains) {
-        Ok(contents) => from_contents(alloc, contents, chains),
+    let first = first_count(most);
+    let mut count = first;
+    match robust_contents(alloc, &held, bits, &mut count) {
+        Ok(contents) => from_contents(alloc, contents, count - first),
         Err(SearchFault::Wide) => Err(RecoverFault::Wide {
-            chains: 4_000_001,
+            chains: most + 1,
             choices: 0,
         }),
         Err(SearchFault::NoMemory) => Err(RecoverFault::NoMemory),
@@ -145,29 +162,44 @@ pub fn recover_robust(alloc: Global, blocks: &[Block], bits: u8) -> Result<Recov
 ///
 /// The work is that of the chains of 1 to m from each point on, with one join for each chain of m,
 /// and of the choices.
-pub fn recover_open(alloc: Global, blocks: &[Block], bits: u8) -> Result<Recovered, RecoverFault>
+pub fn recover_open(
+    alloc: Global,
+    blocks: &[Block],
+    bits: u8,
+    most: u32,
+) -> Result<Recovered, RecoverFault>
     requires bits { bits ≤ 63 }
+    requires most { most ≤ 4000000 }
     requires few { length blocks.now < 2 ^ 32 }
 
     // Exactly what the definition calls openly recovered, in byte order.
     ensures objects { IfOk result (λ objects. AreOpenlyRecovered blocks.now bits objects) }
 
-    // Both counts are no more than the limit.
-    ensures within { OnOk result (IsOpenlyWithin blocks.now bits) }
-    ensures wide { IfErr result (λ fault. IsOpenlyTooWide blocks.now bits fault) }
+    // Both counts are borne.
+    ensures within { OnOk result (IsOpenlyWithin most blocks.now bits) }
+    ensures wide { IfErr result (λ fault. IsOpenlyTooWide most blocks.now bits fault) }
 {
     let Ok(held) = held_in(alloc, blocks, bits) else {
         return Err(RecoverFault::NoMemory);
     };
-    let mut chains = 0;
-    match open_contents(alloc, &held, bits, &mut chains) {
-        Ok(contents) => from_contents(alloc, contents, chains),
+    let first = first_count(most);
+    let mut count = first;
+    match open_contents(alloc, &held, bits, &mut count) {
+        Ok(contents) => from_contents(alloc, contents, count - first),
         Err(SearchFault::Wide) => Err(RecoverFault::Wide {
-            chains: 4_000_001,
+            chains: most + 1,
             choices: 0,
         }),
         Err(SearchFault::NoMemory) => Err(RecoverFault::NoMemory),
     }
+}
+
+/// From where chains are counted, so that the limit of the search comes behind so many.
+fn first_count(most: u32) -> usize
+    requires most { most ≤ 4000000 }
+    ensures { result + most ≡ 4000000 }
+{
+    WIDEST - most as usize
 }
 
 /// The objects that these contents give, where their choices are no more than the limit.
@@ -180,7 +212,7 @@ fn from_contents(
     requires chains { chains ≤ 4000000 }
     ensures objects { IfOk result (λ objects. (o : List ℕ)
         → IsIn objects o ↔ IsRecovered (IsIn contents.items) o) }
-    ensures order { IfOk result (λ objects. AllPairs IsBefore objects) }
+    ensures order { IfOk result (λ objects. AllPairs IsBytesBefore objects) }
     ensures within { OnOk result (AreFew (IsIn contents.items)) }
     ensures wide { IfErr result (λ fault. AreTooWide (IsIn contents.items) chains fault) }
 {

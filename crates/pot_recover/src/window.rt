@@ -3,7 +3,7 @@ ghost use Rattle.pot_chains.specs.Listed.{IsIn, IsOnce};
 ghost use Rattle.pot_shard.specs.declared.shard.Shard.{Shard};
 ghost use Rattle.pot_recover.specs.Groups.{part_of, now_of, IsHoldable};
 ghost use Rattle.pot_recover.specs.HeldShards.{shard_of, PlacesRise};
-ghost use Rattle.pot_recover.specs.OpenScopes.{after, points_from, IsStart, IsWindow};
+ghost use Rattle.pot_recover.specs.OpenScopes.{after, points_from, IsOpenStart, IsWindow};
 
 use crate::group::{Group, levels_of};
 use crate::held::Held;
@@ -27,7 +27,7 @@ pub(crate) fn window_of<'a, 'b>(
     start: Start,
     bits: u8,
 ) -> Result<Group<'a, 'b>, NoMemory>
-    requires start { IsStart start }
+    requires start { IsOpenStart start }
     requires order { PlacesRise held.now }
     requires short { length held.now < 2 ^ 32 }
     requires once { IsOnce (map (shard_of bits) held.now) }
@@ -52,7 +52,7 @@ fn parts_from<'a, 'b>(
     held: &'a [Held<'b>],
     start: Start,
 ) -> Result<Vec<&'a [Held<'b>]>, NoMemory>
-    requires start { IsStart start }
+    requires start { IsOpenStart start }
     requires order { PlacesRise held.now }
     ensures { IfOk result
         (λ parts. map now_of parts.items

@@ -1,31 +1,25 @@
 -- What a group of the world that goes along with a running group does at one call.
-use Rattle.std.proofs.Common.{◌≡◌, ℕ, ◌<◌, List, [], ◌∷◌, ◌++◌, Option, Some, None, Bool, true, false, refl, sym, ap, ◌∙◌, subst, arith, map}
+use Rattle.std.proofs.Common.{◌≡◌, ℕ, ◌<◌, List, [], ◌∷◌, ◌++◌, Bool, refl, sym, ap, ◌∙◌, subst, arith, map}
 use Rattle.pot_machine.specs.declared.entry.Entry.{Entry}
 use Rattle.pot_machine.specs.declared.entry.Entry.TheVariants as entry
 use Rattle.pot_machine.specs.Table.{Table, width}
-use Rattle.pot_machine.specs.Machine.{Replays, after}
+use Rattle.pot_machine.specs.Machine.{after}
 use Rattle.pot_steps.specs.declared.flight.Flight.{Flight}
 use Rattle.pot_steps.specs.Stripe.{Sound}
 use Rattle.pot_steps.specs.Holdings.{Holdings, stripe_of}
-use Rattle.pot_steps.specs.GroupStep.{GroupState, LosesBlocks, LookStep, Looked, Seen, Gone, Faulted, LogFull, Placed, NotPut, Full, NoRoom, PutStep, PutAnswer, look_entries}
-use Rattle.pot_steps.specs.Mending.{LookedWell}
-use Rattle.pot_execution.specs.Execution.{Call, StepOf, IsAsked, Leads}
+use Rattle.pot_steps.specs.GroupStep.{GroupState, LosesBlocks, LookStep, Gone}
 use Rattle.pot_execution.specs.Execution as call
 use Rattle.pot_world.specs.Group.{WorldGroup}
-use Rattle.pot_world.specs.Acts.{Act, Lose, Look, PutNext, Mend, MoveBegin, MoveOne, Swap, act, used_by, IsAllowed}
+use Rattle.pot_world.specs.Acts.{Act, Lose, Look, act, used_by, IsAllowed}
 use Rattle.pot_world.specs.Reached.{IsGood}
-use Rattle.pot_world.specs.Ties.{IsTied, IsOfWorld, Matches, SameState, lose_all, losses_to, losses_told, stepped}
-use Rattle.pot_world.proofs.Clearing.{lost_in, lose_all-is, clears_to}
-use Rattle.pot_world.proofs.FullTying.{full_tied}
+use Rattle.pot_world.specs.Ties.{IsTied, Matches, lose_all, losses_to, losses_told, stepped}
+use Rattle.pot_world.proofs.Clearing.{lose_all-is, clears_to}
 use Rattle.pot_world.proofs.Inside.{Bounds, InsideOf, Inside, act_inside, bounds_on, raises}
-use Rattle.pot_world.proofs.MendTying.{mend_tied}
-use Rattle.pot_world.proofs.MoveTying.{move_begin_tied, move_tied, swap_tied}
 use Rattle.pot_world.proofs.OneEntry.{within_of}
-use Rattle.pot_world.proofs.PutTying.{put_tied}
 use Rattle.pot_world.proofs.Reaching.{both_act}
 use Rattle.pot_world.proofs.Remaining.{act_sizes}
 use Rattle.pot_world.proofs.Tying.{look_tied}
-use Rattle.pot_refinement.specs.Refinement.{Simulates, PutWell, GoesWell, used_after, used_by_all, AllWell, Acts, ActsTo, ExecutionSimulated}
+use Rattle.pot_refinement.specs.Refinement.{Simulates, ActsInTurn, ActsTo}
 
 -- WHAT ACTS KEEP
 
@@ -52,14 +46,14 @@ stays_lost used numbers (x ∷ xs) g h =
 losing : List (ℕ × ℕ) → List Act
 losing xs = map (λ x. Lose x.0 x.1) xs
 
-acts_lose : (used : ℕ → Bool) (xs : List (ℕ × ℕ)) (g : WorldGroup) (acts : List Act) (after : ℕ → Bool) (h : WorldGroup) → Acts used (lose_all xs g) acts after h → Acts used g (losing xs ++ acts) after h
+acts_lose : (used : ℕ → Bool) (xs : List (ℕ × ℕ)) (g : WorldGroup) (acts : List Act) (after : ℕ → Bool) (h : WorldGroup) → ActsInTurn used (lose_all xs g) acts after h → ActsInTurn used g (losing xs ++ acts) after h
 unfolding losing
 acts_lose used [] g acts after h go = go
 acts_lose used (x ∷ xs) g acts after h go = (tt, acts_lose used xs (act (Lose x.0 x.1) g) acts after h go)
 
 -- acts behind acts
-pub acts_join : (used mid after : ℕ → Bool) (g h k : WorldGroup) (first more : List Act) → Acts used g first mid h → Acts mid h more after k → Acts used g (first ++ more) after k
-acts_join used mid after g h k [] more go on = subst (λ x. Acts used x more after k) go.1 (subst (λ u. Acts u h more after k) go.0 on)
+pub acts_join : (used mid after : ℕ → Bool) (g h k : WorldGroup) (first more : List Act) → ActsInTurn used g first mid h → ActsInTurn mid h more after k → ActsInTurn used g (first ++ more) after k
+acts_join used mid after g h k [] more go on = subst (λ x. ActsInTurn used x more after k) go.1 (subst (λ u. ActsInTurn u h more after k) go.0 on)
 acts_join used mid after g h k (a ∷ first) more go on = (go.0, acts_join (used_by a used) mid after (act a g) h k first more go.1 on)
 
 -- ONE CALL

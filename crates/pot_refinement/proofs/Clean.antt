@@ -12,24 +12,23 @@ use Rattle.pot_bytes.specs.Digests.{digest_of}
 use Rattle.pot_machine.specs.declared.entry.Entry.{Entry}
 use Rattle.pot_machine.specs.declared.entry.Entry.TheVariants as entry
 use Rattle.pot_machine.specs.Table.{Table, width, archives_in, serving_at}
-use Rattle.pot_machine.specs.Rules.{IsTable}
 use Rattle.pot_outside.specs.Archives.{IsCoherent, Meaning}
 use Rattle.pot_group.specs.Arrivals.{arrival, arrivals}
 use Rattle.pot_group.specs.Group.{state_of}
 use Rattle.pot_group.proofs.Arriving.{arrivals-append}
 use Rattle.pot_steps.specs.Stripe.{Sound}
 use Rattle.pot_steps.specs.Holdings.{stripe_of}
-use Rattle.pot_steps.specs.GroupStep.{GroupState, StartStep, PutStep, PutAnswer, Passed, Placed, NotPut, Full, NoRoom, Looked, Seen, Gone, Faulted, LogFull, LookStep, put_entry, look_entries, gone_entries, skips, entries_where, opening, FullStep}
+use Rattle.pot_steps.specs.GroupStep.{GroupState, StartStep, Passed, Placed, NotPut, Full, NoRoom, Looked, Seen, Gone, Faulted, LogFull, put_entry, look_entries, gone_entries, skips, entries_where, opening}
 use Rattle.pot_steps.specs.RelaySteps.{MendAnswer, MendStep, Began, Extends, NoNeed, Stuck, MendOdd, MendFaulted, MendFull, AdvanceStep, AdvanceAnswer}
 use Rattle.pot_steps.specs.RelaySteps as relay
-use Rattle.pot_steps.specs.MoveSteps.{MoveStep, MoveAnswer, Copied, MoveEnded, MoveFaulted, MoveIdle, MoveFull}
+use Rattle.pot_steps.specs.MoveSteps.{Copied, MoveEnded, MoveFaulted, MoveIdle, MoveFull}
 use Rattle.pot_steps.specs.MoveSteps as move
 use Rattle.pot_execution.specs.Execution.{AllCame, Call, FailedInOpening, IsAtWork, StepOf, Leads, had}
 use Rattle.pot_execution.proofs.Taken.{served_first}
 use Rattle.pot_execution.specs.Execution as call
 use Rattle.pot_world.specs.Acts.{with_use}
-use Rattle.pot_world.specs.Ties.{IsFresh}
-use Rattle.pot_refinement.specs.Refinement.{AllWell, ComeEmpty, GoesWell, GoneIsMissing, IsEmpty, Past, WellByLog, is_clean, ran_of, used_after, used_by_all, with_uses}
+use Rattle.pot_world.specs.Ties.{IsArchiveFresh}
+use Rattle.pot_refinement.specs.Refinement.{AllWell, ComeEmpty, GoesWell, GoneIsMissing, IsArchiveEmpty, PastGroup, WellByLog, is_clean, ran_of, used_after, used_by_all, with_uses}
 
 -- WHAT A CALL ADDS TO THE LOG
 
@@ -182,8 +181,8 @@ used_all (c ∷ calls) used =
 
 -- an archive that a call brought had no use and was empty
 abbrev ComesFresh : (ℕ → Bool) → Call → Type 0
-ComesFresh used (call.MoveBegin job c to held heard) = (used to ≡ false) × IsFresh held heard
-ComesFresh used (call.Swap job c to held heard) = (used to ≡ false) × IsFresh held heard
+ComesFresh used (call.MoveBegin job c to held heard) = (used to ≡ false) × IsArchiveFresh held heard
+ComesFresh used (call.Swap job c to held heard) = (used to ≡ false) × IsArchiveFresh held heard
 ComesFresh used _ = Unit {0}
 
 abbrev AllFresh : (ℕ → Bool) → List Call → Type 0
@@ -191,14 +190,14 @@ AllFresh used [] = Unit {0}
 AllFresh used (c ∷ calls) = ComesFresh used c × AllFresh (used_after used c) calls
 
 -- an archive that holds nothing below slot 2^32, and nothing from there on
-pub holds_none : (m : Meaning) → IsCoherent m → IsEmpty m → (slot : ℕ) → m.held slot ≡ None
+pub holds_none : (m : Meaning) → IsCoherent m → IsArchiveEmpty m → (slot : ℕ) → m.held slot ≡ None
 holds_none m is empty slot = elim (cases_lt slot (2 ^ 32)) [ inl lt ↦ empty.held slot lt | inr le ↦ by (m.held slot) refl le ]
   where
     by : (o : Option (List ℕ)) → m.held slot ≡ o → 2 ^ 32 ≤ slot → o ≡ None
     by None e le = refl
     by (Some b) e le = (let lt = is.low slot b e in absurd (omega (arith, lt, le)))
 
-fresh : (m : Meaning) (held : ℕ → Option (List ℕ)) (heard : List (ℕ × List ℕ)) → IsCoherent m → IsEmpty m → ((slot : ℕ) → held slot ≡ m.held slot) → heard ≡ m.heard → IsFresh held heard
+fresh : (m : Meaning) (held : ℕ → Option (List ℕ)) (heard : List (ℕ × List ℕ)) → IsCoherent m → IsArchiveEmpty m → ((slot : ℕ) → held slot ≡ m.held slot) → heard ≡ m.heard → IsArchiveFresh held heard
 fresh m held heard is empty blocks sums = (λ slot. blocks slot ∙ holds_none m is empty slot, sums ∙ empty.heard)
 
 all_fresh : (calls : List Call) (used : ℕ → Bool) (ns : List ℕ) (taken : ℕ → Meaning) → ((n : ℕ) → IsCoherent (taken n)) → AllCame ns taken calls → ComeEmpty used taken (all_brought calls) → AllFresh used calls
@@ -312,7 +311,7 @@ works (c ∷ calls) used old new leads work comes clean room =
 abbrev GoneBy : (start opened : GroupState) → StartStep start opened → Table → Type 0
 GoneBy start opened opening t = (s c : ℕ) → s < t.stripes → c < width t → opening.gone s c ≡ true → Sound (stripe_of t opened.held s) c → ⊥
 
-opens_well : (p : Past) → ((n : ℕ) → Contains (archives_in p.view.first) n → FailedInOpening p.view.shelves n → ⊥) → GoneIsMissing p.execution.start p.execution.opened p.execution.opening
+opens_well : (p : PastGroup) → ((n : ℕ) → Contains (archives_in p.view.first) n → FailedInOpening p.view.shelves n → ⊥) → GoneIsMissing p.execution.start p.execution.opened p.execution.opening
 opens_well p steady =
     let e = p.execution in
     subst (GoneBy e.start e.opened e.opening) (sym e.unopened.table)

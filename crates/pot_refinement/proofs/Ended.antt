@@ -6,18 +6,18 @@ use Rattle.pot_bytes.specs.declared.rack.Rack.{Rack}
 use Rattle.pot_machine.specs.Table.{Table, archives_in}
 use Rattle.pot_group.specs.Arrivals.{arrivals}
 use Rattle.pot_execution.proofs.Came.{among}
-use Rattle.pot_group.specs.Group.{GroupView, state_of}
+use Rattle.pot_group.specs.Group.{state_of}
 use Rattle.pot_world.specs.Group.{WorldGroup}
-use Rattle.pot_world.specs.Reached.{Move, Reaches, Site, first_group, first_site, first_used}
+use Rattle.pot_world.specs.Reached.{Move, Reaches, Site, first_group, first_used}
 use Rattle.pot_world.specs.Ties.{SameState}
-use Rattle.pot_refinement.specs.Refinement.{Past, ran_of, all_ran, IsNew, AreNew, AllWentWell, AreEmpty, EachRan, Simulates, SimulateOld, SimulateNew, FirstSession, BeginAnew, BeginsAnew, StartsAnew, NextSession, Chain, last_of, SessionsReach, used_by_each, used_since, with_uses}
+use Rattle.pot_refinement.specs.Refinement.{PastGroup, ran_of, all_ran, IsNewGroup, AreNewGroups, AllWentWell, AreEmpty, EachRan, Simulates, SimulateOld, SimulateNew, FirstSession, BeginAnew, BeginsAnew, StartsAnew, NextSession, Chain, last_of, SessionsReach, used_by_each, used_since, with_uses}
 use Rattle.pot_world.specs.Later.{Sessions, reopened, reopened_site}
 use Rattle.pot_world.proofs.Later.{first_reopened}
 use Rattle.pot_refinement.proofs.Clean.{holds_none, well_by_log}
 use Rattle.pot_refinement.proofs.Executions.{executions_reach}
 use Rattle.pot_refinement.proofs.Sessions.{session_reaches, reopened_simulates}
 
-new_empty : (rack : Rack) (n : ℕ) (p : Past) → IsNew rack n p.view → SameState (first_group rack n).state (ran_of p).old
+new_empty : (rack : Rack) (n : ℕ) (p : PastGroup) → IsNewGroup rack n p.view → SameState (first_group rack n).state (ran_of p).old
 new_empty rack n p new =
     let u = p.execution.unopened in
     record {
@@ -30,20 +30,20 @@ new_empty rack n p new =
       heard = λ m. elim (among (archives_in p.view.first) m) [ inl h ↦ sym (u.heard m h ∙ (new.empty m h).heard) | inr h ↦ sym (u.silent m h) ];
     }
 
-all_empty : (rack : Rack) (n more : ℕ) (ps : List Past) → AreNew rack n more ps → AreEmpty rack n more (all_ran ps)
+all_empty : (rack : Rack) (n more : ℕ) (ps : List PastGroup) → AreNewGroups rack n more ps → AreEmpty rack n more (all_ran ps)
 all_empty rack n zero [] new = tt
 all_empty rack n zero (p ∷ ps) new = new
 all_empty rack n (suc more) [] new = new
 all_empty rack n (suc more) (p ∷ ps) new = (new_empty rack n p new.0, all_empty rack (suc n) more ps new.1)
 
 -- the archives that have a use after groups that went well
-pub all_used : (used : ℕ → Bool) (ps : List Past) → AllWentWell used ps → used_by_each (all_ran ps) used ≡ used_since ps used
+pub all_used : (used : ℕ → Bool) (ps : List PastGroup) → AllWentWell used ps → used_by_each (all_ran ps) used ≡ used_since ps used
 all_used used [] well = refl
 all_used used (p ∷ ps) well =
     let one = (well_by_log used p well.0).1 in
     ap (used_by_each (all_ran ps)) one ∙ all_used (with_uses used (arrivals p.view.log)) ps well.1
 
-pub all_well : (used : ℕ → Bool) (ps : List Past) → AllWentWell used ps → EachRan used (all_ran ps)
+pub all_well : (used : ℕ → Bool) (ps : List PastGroup) → AllWentWell used ps → EachRan used (all_ran ps)
 all_well used [] well = tt
 all_well used (p ∷ ps) well =
     let one = well_by_log used p well.0 in
@@ -57,7 +57,7 @@ first_session rack ps fits new well =
 -- THE NEXT ONE
 
 -- what archives held at their taking is what they hold at the start, in all slots
-starts_anew : (used : ℕ → Bool) (g : WorldGroup) (p q : Past) → Simulates used g (state_of p.view) → BeginsAnew p.view q.view → StartsAnew (state_of p.view) q.execution.start
+starts_anew : (used : ℕ → Bool) (g : WorldGroup) (p q : PastGroup) → Simulates used g (state_of p.view) → BeginsAnew p.view q.view → StartsAnew (state_of p.view) q.execution.start
 starts_anew used g p q f anew =
     let u = q.execution.unopened in
     record {
@@ -92,7 +92,7 @@ starts_anew used g p q f anew =
       | inr le ↦ none_from (q.view.shelves.taken n).held (q.execution.coherent n).low slot le ∙ sym (none_from (p.view.shelves.held n) (low n) slot le)
     ]
 
-begin_anew : (used : ℕ → Bool) (gs : List WorldGroup) (ps qs : List Past) → SimulateNew used gs (all_ran ps) → BeginAnew ps qs → SimulateOld used (map reopened gs) (all_ran qs)
+begin_anew : (used : ℕ → Bool) (gs : List WorldGroup) (ps qs : List PastGroup) → SimulateNew used gs (all_ran ps) → BeginAnew ps qs → SimulateOld used (map reopened gs) (all_ran qs)
 begin_anew used [] [] [] follow anew = tt
 begin_anew used [] [] (q ∷ qs) follow anew = anew
 begin_anew used [] (p ∷ ps) qs follow anew = absurd follow
@@ -107,7 +107,7 @@ next_session x ps qs follow anew well =
 
 -- SESSION AFTER SESSION
 
-all_sessions : (more : List (List Past)) (x : Site) (ps : List Past) → SimulateNew x.used x.groups (all_ran ps) → Chain x.used ps more
+all_sessions : (more : List (List PastGroup)) (x : Site) (ps : List PastGroup) → SimulateNew x.used x.groups (all_ran ps) → Chain x.used ps more
     → (sessions : List (List Move)) × (z : Site) × Sessions x sessions z × SimulateNew z.used z.groups (all_ran (last_of ps more))
 all_sessions [] x ps follow chain = ([], x, refl, follow)
 all_sessions (qs ∷ more) x ps follow chain =

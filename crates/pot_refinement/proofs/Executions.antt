@@ -1,14 +1,14 @@
 -- The calls of all groups are moves of the world.
-use Rattle.std.proofs.Common.{◌≡◌, ℕ, zero, suc, List, [], ◌∷◌, ◌++◌, Bool, true, false, refl, sym, ap, ◌∙◌, subst, map}
+use Rattle.std.proofs.Common.{◌≡◌, ℕ, suc, List, [], ◌∷◌, ◌++◌, Bool, refl, ap, ◌∙◌, subst, map}
 use Rattle.pot_steps.specs.GroupStep.{GroupState}
 use Rattle.pot_execution.specs.Execution.{Call}
 use Rattle.pot_execution.specs.Execution as call
 use Rattle.pot_world.specs.Group.{WorldGroup}
-use Rattle.pot_world.specs.Acts.{Act, Lose, MoveBegin, act, used_by, with_use, IsAllowed}
+use Rattle.pot_world.specs.Acts.{Act, MoveBegin, act, used_by, with_use}
 use Rattle.pot_world.specs.Reached.{Move, Makes, Site, at_group, IsAllowedAt, moved, Reaches}
 use Rattle.pot_world.proofs.Inside.{bounds_on, raises}
 use Rattle.pot_world.proofs.Reaching.{grown}
-use Rattle.pot_refinement.specs.Refinement.{Simulates, used_after, used_by_all, Acts, ActsTo, ExecutionsReach, Ran, SimulateOld, SimulateNew, EachRan, used_by_each}
+use Rattle.pot_refinement.specs.Refinement.{Simulates, used_after, used_by_all, ActsInTurn, ExecutionsReach, Ran, SimulateOld, SimulateNew, EachRan, used_by_each}
 use Rattle.pot_refinement.proofs.Simulating.{follows_all}
 
 -- acts of groups, by number, as moves
@@ -31,7 +31,7 @@ reach_join [] ns x y z same on = subst (λ s. Reaches s (makes ns) z) same on
 reach_join (m ∷ ms) ns x y z go on = (go.0, reach_join ms ns (moved (Makes m.0 m.1) x) y z go.1 on)
 
 -- the acts of the first group
-pub reach_first : (used after : ℕ → Bool) (g h : WorldGroup) (gs : List WorldGroup) (acts : List Act) → Acts used g acts after h → Reaches (site used (g ∷ gs)) (makes (first acts)) (site after (h ∷ gs))
+pub reach_first : (used after : ℕ → Bool) (g h : WorldGroup) (gs : List WorldGroup) (acts : List Act) → ActsInTurn used g acts after h → Reaches (site used (g ∷ gs)) (makes (first acts)) (site after (h ∷ gs))
 unfolding Reaches makes first IsAllowedAt at_group
 reach_first used after g h gs [] go = ap (λ u. site u (h ∷ gs)) go.0 ∙ ap (λ x. site used (x ∷ gs)) go.1
 reach_first used after g h gs (a ∷ acts) go = (go.0, reach_first (used_by a used) after (act a g) h gs acts go.1)

@@ -1,5 +1,5 @@
 -- The opening of a group that a group of the world goes along with: looks at what is gone.
-use Rattle.std.proofs.Common.{◌≡◌, ◌≢◌, ◌⊎◌, inl, inr, ℕ, zero, suc, ◌<◌, ◌≤◌, List, [], ◌∷◌, ◌++◌, Option, Some, None, Bool, true, false, IsTrue, refl, sym, ap, ◌∙◌, subst, arith, map, if◌then◌else◌}
+use Rattle.std.proofs.Common.{◌≡◌, ◌≢◌, ◌⊎◌, inl, inr, ℕ, zero, suc, ◌<◌, ◌≤◌, List, [], ◌∷◌, ◌++◌, Option, Some, None, Bool, true, false, IsTrue, refl, sym, ap, ◌∙◌, subst, arith, if◌then◌else◌}
 use Rattle.std.proofs.lemmas.Bool.{cases_Bool}
 use Rattle.pot_bytes.specs.declared.digest.Digest.{Digest}
 use Rattle.pot_machine.specs.declared.entry.Entry.{Entry}
@@ -10,7 +10,7 @@ use Rattle.pot_machine.specs.Slot.{is_live, digest_in}
 use Rattle.pot_machine.specs.Table.{Table, width, slot_at, serving_at}
 use Rattle.pot_machine.specs.Machine.{after, Replays}
 use Rattle.pot_bytes.specs.Digests.{digest_of}
-use Rattle.pot_steps.specs.Stripe.{Sound, IsSound, Filling, HasFilling}
+use Rattle.pot_steps.specs.Stripe.{Sound, Filling, HasFilling}
 use Rattle.pot_steps.specs.Holdings.{stripe_of}
 use Rattle.pot_steps.specs.Entries.{held_at}
 use Rattle.pot_steps.specs.GroupStep.{GroupState, StartStep, as_read, entries_where, opening}
@@ -18,7 +18,7 @@ use Rattle.pot_steps.specs.GroupStep as looked
 use Rattle.pot_execution.specs.Execution as call
 use Rattle.pot_world.specs.Group.{WorldGroup}
 use Rattle.pot_world.proofs.OneEntry.{same_is}
-use Rattle.pot_refinement.specs.Refinement.{Simulates, Acts, ActsTo, GoneIsMissing}
+use Rattle.pot_refinement.specs.Refinement.{Simulates, ActsTo, GoneIsMissing}
 use Rattle.pot_refinement.proofs.Acting.{acts_join, by_losses, looks_gone}
 
 -- a log in two parts

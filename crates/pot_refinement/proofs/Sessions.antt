@@ -1,22 +1,15 @@
 -- The first session of a rack, and what a next one begins with.
-use Rattle.std.proofs.Common.{◌≡◌, ℕ, zero, suc, ◌+◌, ◌*◌, List, [], ◌∷◌, None, inl, inr, Bool, true, false, refl, sym, ap, ◌∙◌, subst, arith}
+use Rattle.std.proofs.Common.{◌≡◌, ℕ, zero, suc, ◌+◌, ◌*◌, List, [], ◌∷◌, None, inl, inr, Bool, refl, sym, ap, ◌∙◌, subst}
 use Rattle.std.specs.Prelude.{Contains}
-use Rattle.std.proofs.lemmas.List.Elements.{All-nil}
 use Rattle.pot_bytes.specs.declared.rack.Rack.{Rack}
 use Rattle.pot_bytes.specs.Rack.{IsRack}
 use Rattle.pot_machine.specs.Table.{Table, archives_in}
 use Rattle.pot_execution.proofs.Came.{among}
-use Rattle.pot_machine.specs.Rules.{IsTable, IsStanding}
-use Rattle.pot_steps.specs.GroupStep.{GroupState}
-use Rattle.pot_world.specs.Group.{WorldGroup}
-use Rattle.pot_world.specs.Kept.{IsKept, IsFlight}
-use Rattle.pot_world.specs.Stocked.{IsStocked}
-use Rattle.pot_world.specs.Reached.{Site, first_groups, first_site, first_used, EachGroup, IsGood, Reaches, is_oddly}
-use Rattle.pot_world.specs.Ties.{SameState}
+use Rattle.pot_world.specs.Reached.{first_groups, first_site, first_used, EachGroup, IsGood, Reaches}
 use Rattle.pot_world.proofs.Inside.{Bounds, InsideOf, first_bounded}
 use Rattle.pot_world.proofs.Reaching.{reached_keeps}
 use Rattle.pot_world.proofs.Later.{good_anew, held_anew, of_listed, of_unlisted}
-use Rattle.pot_refinement.specs.Refinement.{Simulates, Ran, SimulateOld, AreEmpty, SessionReaches, StartsAnew, ReopenedSimulates}
+use Rattle.pot_refinement.specs.Refinement.{Ran, SimulateOld, AreEmpty, SessionReaches, ReopenedSimulates}
 use Rattle.pot_refinement.proofs.Executions.{executions_reach}
 
 -- THE FIRST SESSION

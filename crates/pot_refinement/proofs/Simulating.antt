@@ -1,35 +1,25 @@
 -- A group of the world goes along with the calls of a running group.
-use Rattle.std.proofs.Common.{◌≡◌, ℕ, ◌<◌, List, [], ◌∷◌, ◌++◌, Option, Some, None, Bool, true, false, refl, sym, ap, ◌∙◌, subst, map}
+use Rattle.std.proofs.Common.{◌≡◌, ℕ, ◌<◌, [], ◌∷◌, ◌++◌, Bool, refl, sym, ◌∙◌, subst}
 use Rattle.pot_machine.specs.declared.entry.Entry.{Entry}
 use Rattle.pot_machine.specs.declared.entry.Entry.TheVariants as entry
-use Rattle.pot_machine.specs.Machine.{Replays}
-use Rattle.pot_steps.specs.Holdings.{Holdings}
-use Rattle.pot_steps.specs.GroupStep.{GroupState, LosesBlocks, LookStep, Looked, Seen, Gone, Faulted, LogFull, Placed, NotPut, Full, NoRoom, PutStep, PutAnswer, look_entries}
-use Rattle.pot_steps.specs.Mending.{LookedWell}
+use Rattle.pot_steps.specs.GroupStep.{GroupState, Seen, Gone, Faulted, LogFull, Placed, NotPut, Full, NoRoom}
 use Rattle.pot_steps.specs.MoveSteps.{Copied, Passed, MoveEnded, MoveFaulted, MoveIdle, MoveFull}
-use Rattle.pot_execution.specs.Execution.{Call, StepOf, IsAsked, Leads}
+use Rattle.pot_execution.specs.Execution.{Call, StepOf, IsCallAsked}
 use Rattle.pot_execution.specs.Execution as call
 use Rattle.pot_world.specs.Group.{WorldGroup}
-use Rattle.pot_world.specs.Acts.{Act, Lose, Look, PutNext, Mend, MoveBegin, MoveOne, Swap, act, used_by, IsAllowed}
-use Rattle.pot_world.specs.Reached.{IsGood}
-use Rattle.pot_world.specs.Ties.{IsTied, IsOfWorld, Matches, SameState, lose_all, losses_to, losses_told, stepped}
-use Rattle.pot_world.proofs.Clearing.{lost_in, lose_all-is, clears_to}
+use Rattle.pot_world.specs.Acts.{Look, PutNext, Mend, MoveBegin, MoveOne, Swap}
 use Rattle.pot_world.proofs.FullTying.{full_tied}
-use Rattle.pot_world.proofs.Inside.{Bounds, InsideOf, Inside, act_inside, bounds_on, raises}
 use Rattle.pot_world.proofs.MendTying.{mend_tied}
 use Rattle.pot_world.proofs.MoveTying.{move_begin_tied, move_tied, swap_tied}
-use Rattle.pot_world.proofs.OneEntry.{within_of}
 use Rattle.pot_world.proofs.PutTying.{put_tied}
-use Rattle.pot_world.proofs.Reaching.{both_act}
-use Rattle.pot_world.proofs.Remaining.{act_sizes}
 use Rattle.pot_world.proofs.Tying.{look_tied}
 use Rattle.pot_refinement.proofs.Acting.{acts_join, by_tie, by_losses, matches}
 use Rattle.pot_refinement.proofs.Openings.{opens}
-use Rattle.pot_refinement.specs.Refinement.{Simulates, PutWell, GoesWell, used_after, used_by_all, AllWell, Acts, ActsTo, ExecutionSimulated}
+use Rattle.pot_refinement.specs.Refinement.{Simulates, GoesWell, used_after, used_by_all, ActsTo, ExecutionSimulated}
 
 -- EACH KIND OF CALL
 
-follow : (used : ℕ → Bool) (g : WorldGroup) (c : Call) (old new : GroupState) (f : Simulates used g old) → IsAsked c old → (step : StepOf c old new) → GoesWell used c old new step → ActsTo used g (used_after used c) new
+follow : (used : ℕ → Bool) (g : WorldGroup) (c : Call) (old new : GroupState) (f : Simulates used g old) → IsCallAsked c old → (step : StepOf c old new) → GoesWell used c old new step → ActsTo used g (used_after used c) new
 follow used g call.Open old new f asked step well = opens used g old new f step well
 follow used g (call.Put job block (Placed s c)) old new f asked step well =
     let t = put_tied used f.numbers job s c block g old new (matches used g old f) asked step in by_tie used t.0 (PutNext job block) g old new f t.1

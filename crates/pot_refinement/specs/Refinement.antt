@@ -14,16 +14,15 @@ use Rattle.pot_steps.specs.Stripe.{Sound}
 use Rattle.pot_steps.specs.Holdings.{stripe_of}
 use Rattle.pot_steps.specs.GroupStep.{GroupState, StartStep, PutAnswer, Placed, NotPut, Full, NoRoom}
 use Rattle.pot_steps.specs.Mending.{MendedWell}
-use Rattle.pot_steps.specs.RelaySteps.{MendAnswer}
 use Rattle.pot_steps.specs.MoveSteps.{MoveAnswer, MoveFaulted, MoveFull}
 use Rattle.pot_execution.specs.Execution.{Call, Open, Put, Look, Count, Mend, MoveBegin, MoveOne, Swap}
 use Rattle.pot_execution.specs.Execution.{FailedInOpening, Leads, StepOf, HasExecution}
 use Rattle.pot_world.specs.Group.{WorldGroup}
 use Rattle.pot_world.specs.Acts.{Act, act, used_by, with_use, IsAllowed}
 use Rattle.pot_world.specs.Later.{Sessions, reopened, reopened_site}
-use Rattle.pot_world.specs.Reached.{Move, Makes, Site, Reaches, IsGood, first_group, first_site}
+use Rattle.pot_world.specs.Reached.{Move, Site, Reaches, IsGood, first_group, first_site}
 use Rattle.pot_world.specs.Reached.{first_used}
-use Rattle.pot_world.specs.Ties.{SameState, IsFresh}
+use Rattle.pot_world.specs.Ties.{SameState, IsArchiveFresh}
 
 -- A group of the world simulates a running group: it keeps its rules, the archives in use
 -- have a bound, what they hold stands in slots of the stripes, and table, flights, contents and
@@ -63,9 +62,9 @@ GoesWell used (Look job s c answer) old new step = Unit {0}
 GoesWell used (Count job) old new step = Unit {0}
 GoesWell used (Mend job s c blind answer) old new step = MendedWell answer
 GoesWell used (MoveBegin job c to held heard) old new step =
-    (used to ≡ false) × IsFresh held heard
+    (used to ≡ false) × IsArchiveFresh held heard
 GoesWell used (MoveOne job c answer) old new step = MoveFits answer
-GoesWell used (Swap job c to held heard) old new step = (used to ≡ false) × IsFresh held heard
+GoesWell used (Swap job c to held heard) old new step = (used to ≡ false) × IsArchiveFresh held heard
 
 -- the archives that have a use after it
 abbrev pub used_after : (ℕ → Bool) → Call → ℕ → Bool
@@ -86,17 +85,17 @@ AllWell used (c ∷ calls) old new leads =
     GoesWell used c old leads.0 leads.2 × AllWell (used_after used c) calls leads.0 new leads.3
 
 -- act after act, each allowed in its turn
-abbrev pub Acts : (ℕ → Bool) → WorldGroup → List Act → (ℕ → Bool) → WorldGroup → Type 0
-Acts used g [] after h = (after ≡ used) × (h ≡ g)
-Acts used g (a ∷ acts) after h =
-    IsAllowed used a g × Acts (used_by a used) (act a g) acts after h
+abbrev pub ActsInTurn : (ℕ → Bool) → WorldGroup → List Act → (ℕ → Bool) → WorldGroup → Type 0
+ActsInTurn used g [] after h = (after ≡ used) × (h ≡ g)
+ActsInTurn used g (a ∷ acts) after h =
+    IsAllowed used a g × ActsInTurn (used_by a used) (act a g) acts after h
 
 -- acts lead to a group of the world that simulates this state
 pub record ActsTo (used : ℕ → Bool) (g : WorldGroup) (after : ℕ → Bool) (new : GroupState) : Type
     0 where
   pub acts : List Act
   pub group : WorldGroup
-  pub go : Acts used g acts after group
+  pub go : ActsInTurn used g acts after group
   pub follows : Simulates after group new
 
 -- so it is with the calls of an execution that go well
@@ -185,12 +184,12 @@ ReopenedSimulates =
 -- GROUPS THAT ENDED
 
 -- a running group as it ended, with its execution
-pub record Past : Type 0 where
+pub record PastGroup : Type 0 where
   pub view : GroupView
   pub execution : HasExecution view
 
 -- its opening and its calls
-abbrev pub ran_of : Past → Ran
+abbrev pub ran_of : PastGroup → Ran
 ran_of p =
     record {
       old = p.execution.start;
@@ -199,7 +198,7 @@ ran_of p =
       leads = (p.execution.opened, tt, p.execution.opening, p.execution.leads);
     }
 
-abbrev pub all_ran : List Past → List Ran
+abbrev pub all_ran : List PastGroup → List Ran
 all_ran ps = map ran_of ps
 
 -- WHAT A GROUP TELLS OF ITS CALLS
@@ -212,7 +211,7 @@ is_clean (entry.Put2 job s c digest parity_digest second_digest kept kept2) = ke
 is_clean _ = true
 
 -- an archive that held nothing and had heard nothing
-pub record IsEmpty (m : Meaning) : Type 0 where
+pub record IsArchiveEmpty (m : Meaning) : Type 0 where
   pub held : (slot : ℕ) → slot < 2 ^ 32 → m.held slot ≡ None
   pub heard : m.heard ≡ []
 
@@ -225,7 +224,7 @@ with_uses used (n ∷ ns) = with_uses (with_use used n) ns
 abbrev pub ComeEmpty : (ℕ → Bool) → (ℕ → Meaning) → List ℕ → Type 0
 ComeEmpty used taken [] = Unit {0}
 ComeEmpty used taken (n ∷ ns) =
-    (used n ≡ false) × IsEmpty (taken n) × ComeEmpty (with_use used n) taken ns
+    (used n ≡ false) × IsArchiveEmpty (taken n) × ComeEmpty (with_use used n) taken ns
 
 -- Its log has room and names no fault and no parity block that was not kept. No count of faults of
 -- an archive of its first table rose while it opened that table. And the archives that its log
@@ -240,17 +239,17 @@ pub record WentWell (used : ℕ → Bool) (v : GroupView) : Type 0 where
 -- brought.
 abbrev pub WellByLog : Type 0
 WellByLog =
-    (used : ℕ → Bool) (p : Past) → WentWell used p.view
+    (used : ℕ → Bool) (p : PastGroup) → WentWell used p.view
     → AllWell used (ran_of p).calls (ran_of p).old (ran_of p).new (ran_of p).leads
     × (used_by_all (ran_of p).calls used ≡ with_uses used (arrivals p.view.log))
 
 -- the archives that have a use after these groups
-abbrev pub used_since : List Past → (ℕ → Bool) → ℕ → Bool
+abbrev pub used_since : List PastGroup → (ℕ → Bool) → ℕ → Bool
 used_since [] used = used
 used_since (p ∷ ps) used = used_since ps (with_uses used (arrivals p.view.log))
 
 -- each went well, and no archive came to two of them
-abbrev pub AllWentWell : (ℕ → Bool) → List Past → Type 0
+abbrev pub AllWentWell : (ℕ → Bool) → List PastGroup → Type 0
 AllWentWell used [] = Unit {0}
 AllWentWell used (p ∷ ps) =
     WentWell used p.view × AllWentWell (with_uses used (arrivals p.view.log)) ps
@@ -259,22 +258,22 @@ AllWentWell used (p ∷ ps) =
 
 -- It began over the empty table of its place, and over archives that were empty when they were
 -- taken.
-pub record IsNew (rack : Rack) (n : ℕ) (v : GroupView) : Type 0 where
+pub record IsNewGroup (rack : Rack) (n : ℕ) (v : GroupView) : Type 0 where
   pub first : v.first ≡ empty_table rack n
-  pub empty : (m : ℕ) → Contains (archives_in v.first) m → IsEmpty (v.shelves.taken m)
+  pub empty : (m : ℕ) → Contains (archives_in v.first) m → IsArchiveEmpty (v.shelves.taken m)
 
 -- so did each, from number n
-abbrev pub AreNew : Rack → ℕ → ℕ → List Past → Type 0
-AreNew rack n zero [] = Unit {0}
-AreNew rack n zero (p ∷ ps) = ⊥
-AreNew rack n (suc more) [] = ⊥
-AreNew rack n (suc more) (p ∷ ps) = IsNew rack n p.view × AreNew rack (suc n) more ps
+abbrev pub AreNewGroups : Rack → ℕ → ℕ → List PastGroup → Type 0
+AreNewGroups rack n zero [] = Unit {0}
+AreNewGroups rack n zero (p ∷ ps) = ⊥
+AreNewGroups rack n (suc more) [] = ⊥
+AreNewGroups rack n (suc more) (p ∷ ps) = IsNewGroup rack n p.view × AreNewGroups rack (suc n) more ps
 
 -- The groups that a first session leaves are those that moves from the first groups of the rack
 -- lead to.
 abbrev pub FirstSession : Type 0
 FirstSession =
-    (rack : Rack) (ps : List Past) → IsRack rack → AreNew rack 0 rack.groups ps
+    (rack : Rack) (ps : List PastGroup) → IsRack rack → AreNewGroups rack 0 rack.groups ps
     → AllWentWell (first_used rack) ps
     → (moves : List Move) × (y : Site) × Reaches (first_site rack) moves y
     × (y.used ≡ used_since ps (first_used rack)) × SimulateNew y.used y.groups (all_ran ps)
@@ -289,7 +288,7 @@ pub record BeginsAnew (end v : GroupView) : Type 0 where
       → (v.shelves.taken n).heard ≡ end.shelves.heard n
 
 -- A later session: its groups began so, each as that of its place in the session before.
-abbrev pub BeginAnew : List Past → List Past → Type 0
+abbrev pub BeginAnew : List PastGroup → List PastGroup → Type 0
 BeginAnew [] [] = Unit {0}
 BeginAnew [] (q ∷ qs) = ⊥
 BeginAnew (p ∷ ps) [] = ⊥
@@ -299,27 +298,27 @@ BeginAnew (p ∷ ps) (q ∷ qs) = BeginsAnew p.view q.view × BeginAnew ps qs
 -- that it leaves.
 abbrev pub NextSession : Type 0
 NextSession =
-    (x : Site) (ps qs : List Past) → SimulateNew x.used x.groups (all_ran ps) → BeginAnew ps qs
+    (x : Site) (ps qs : List PastGroup) → SimulateNew x.used x.groups (all_ran ps) → BeginAnew ps qs
     → AllWentWell x.used qs
     → (moves : List Move) × (y : Site)
     × Reaches (reopened_site x) moves y
     × (y.used ≡ used_since qs x.used) × SimulateNew y.used y.groups (all_ran qs)
 
 -- session after session, each from what the one before left
-abbrev pub Chain : (ℕ → Bool) → List Past → List (List Past) → Type 0
+abbrev pub Chain : (ℕ → Bool) → List PastGroup → List (List PastGroup) → Type 0
 Chain used ps [] = Unit {0}
 Chain used ps (qs ∷ more) =
     BeginAnew ps qs × AllWentWell used qs × Chain (used_since qs used) qs more
 
-abbrev pub last_of : List Past → List (List Past) → List Past
+abbrev pub last_of : List PastGroup → List (List PastGroup) → List PastGroup
 last_of ps [] = ps
 last_of ps (qs ∷ more) = last_of qs more
 
 -- What a first session and those that follow it leave is what sessions of a world lead to.
 abbrev pub SessionsReach : Type 0
 SessionsReach =
-    (rack : Rack) (ps : List Past) (more : List (List Past)) → IsRack rack
-    → AreNew rack 0 rack.groups ps → AllWentWell (first_used rack) ps
+    (rack : Rack) (ps : List PastGroup) (more : List (List PastGroup)) → IsRack rack
+    → AreNewGroups rack 0 rack.groups ps → AllWentWell (first_used rack) ps
     → Chain (used_since ps (first_used rack)) ps more
     → (sessions : List (List Move)) × (z : Site) × Sessions (first_site rack) sessions z
     × SimulateNew z.used z.groups (all_ran (last_of ps more))

@@ -1,8 +1,8 @@
 //! Shards that lead to shards of their own archive alone, or to which those alone lead.
 //!
-//! The shards of a fragment lie in as many archives, so a store lays none of them. Whoever writes to
-//! one archive alone does not know the names in the others: of a ring that he lays there, some shard
-//! leads to his own archive alone, or is led to by that alone.
+//! The shards of a fragment lie in as many archives, so a store lays none of them. Whoever writes
+//! to one archive alone does not know the names in the others: of a ring that he lays there, some
+//! shard leads to his own archive alone, or is led to by that alone.
 
 use pot_bytes::Block;
 use pot_pointer::{blur, equal_range};
@@ -150,8 +150,8 @@ impl Index {
     }
 }
 
-/// The slots, by archive, of the shards that lead to their own archive alone, or to which that alone
-/// leads. A ring of one shard has no other.
+/// The slots, by archive, of the shards that lead to their own archive alone, or to which that
+/// alone leads. A ring of one shard has no other.
 pub fn inside_slots(
     alloc: Global,
     linked: &[Linked],

@@ -1,9 +1,9 @@
 //! From which archives the blocks of a file are.
 //!
-//! The ring of each shard of the first point is followed, by the first shard that each one leads to,
-//! and its first m shares are joined. The fragments of one object are added up, which tells the file.
-//! Where shards lead to several, other rings are passed by. So this tells some archives of a file,
-//! and of what `recover` found nothing else.
+//! The ring of each shard of the first point is followed, by the first shard that each one leads
+//! to, and its first m shares are joined. The fragments of one object are added up, which tells the
+//! file. Where shards lead to several, other rings are passed by. So this tells some archives of a
+//! file, and of what `recover` found nothing else.
 
 use crate::inside::{Index, Linked};
 use crate::remains::{Reading, linked_in};
@@ -22,7 +22,8 @@ const SHARE: usize = 992;
 /// Where the bytes of a fragment begin in its content.
 const HEAD: usize = 64;
 
-/// A file by the 32 hexadecimal digits of its id, and archives that blocks of it are from, in order.
+/// A file by the 32 hexadecimal digits of its id, and archives that blocks of it are from, in
+/// order.
 #[derive(Drop)]
 pub struct Origin {
     pub id: String,

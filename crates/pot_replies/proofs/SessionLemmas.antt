@@ -5,7 +5,7 @@ use Rattle.std.proofs.lemmas.Option.{same_Some}
 use Rattle.std.proofs.lemmas.List.Elements.{filter-append}
 use Rattle.pot_index.specs.Entries as index
 use Rattle.pot_machine.specs.Logs.{job_of, own}
-use Rattle.pot_replies.specs.Sections.{Section, MovesThenRest, IsAmong, IsOfJobs, Follows}
+use Rattle.pot_replies.specs.Sections.{Section, MovesThenRest, IsAmong, IsOfJobs, FollowsSection}
 use Rattle.pot_replies.specs.Sessions.{Step, jobs_in, jobs_of, AreSections, Answered, Answers}
 use Rattle.pot_replies.specs.SessionLaws.{OwnInSections, RepliedNone, RepliedMore}
 
@@ -70,7 +70,7 @@ module _ {Line : Type 0} where
   -- ONE STEP MORE
 
   sections_more : (job : ℕ) (steps : List (Step Line)) (ones : List Section) (c : Step Line) (sofar one whole : Section) → AreSections job steps ones sofar
-      → Follows sofar one whole → IsOfJobs (job + jobs_of steps) (jobs_in c) one → AreSections job (steps ++ c ∷ []) (ones ++ one ∷ []) whole
+      → FollowsSection sofar one whole → IsOfJobs (job + jobs_of steps) (jobs_in c) one → AreSections job (steps ++ c ∷ []) (ones ++ one ∷ []) whole
   sections_more job [] [] c sofar one whole are follows of =
       let rest : Section = record { before = λ g. whole.before g ++ one.added g; added = λ g. []; index_before = whole.index_before ++ one.index_added; index_added = [] } in
       let same : job + 0 ≡ job = omega arith in (

@@ -19,7 +19,7 @@ use Rattle.pot_index.specs.Index.{names_read, IsRecordOf}
 use Rattle.pot_replies.specs.Jobs.{is_stuck_at}
 use Rattle.pot_replies.specs.Sections.{Section, JobEntries, mine, LogPoint, IndexMoment, Widens, names_after}
 use Rattle.pot_replies.specs.Settings.{Setting}
-use Rattle.pot_replies.specs.Fetches.{FoundThen, AreReads, Mends, FetchEntries, SeenAs, LastIs, GoneAgain, HopelessIf, IsHopeless}
+use Rattle.pot_replies.specs.Fetches.{FoundThen, AreReads, MendsOnce, FetchEntries, SeenAs, LastIs, GoneAgain, HopelessIf, IsHopeless}
 
 none_more : {X : Type 0} (test : X → Bool) (xs more whole : List X) → whole ≡ xs ++ more → filter test more ≡ [] → filter test whole ≡ filter test xs
 none_more test xs more whole is none =
@@ -84,7 +84,7 @@ module _ (job : ℕ) (w w' : Section) (wide : Widens job w w') where
     published = subst (λ l. IsRecordOf (names_after (names_read s.read) (l ++ is.sofar)) name kept) (sym wide.index_before) is.published;
   }
 
-  pub mends_stand : (g : ℕ) → Mends job (w.added g) → Mends job (w'.added g)
+  pub mends_stand : (g : ℕ) → MendsOnce job (w.added g) → MendsOnce job (w'.added g)
   mends_stand g is = record {
     one_stuck = λ s c. subst (λ es. length (filter (is_stuck_at s c) es) ≤ 1) (sym (same_own g)) (is.one_stuck s c);
     none_again = λ s c f x between y z at none.

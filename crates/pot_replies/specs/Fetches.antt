@@ -26,7 +26,7 @@ use Rattle.pot_replies.specs.Settings.{Setting}
 use Rattle.pot_replies.specs.Joined.{AreJoined}
 
 -- `absent`: the name was looked for and not published, and nothing else was logged
-pub record IsAbsent (job : ℕ) (name : List ℕ) (m : JobEntries) : Type 0 where
+pub record IsFetchAbsent (job : ℕ) (name : List ℕ) (m : JobEntries) : Type 0 where
   pub index : m.index ≡ plain (Find job name false) ∷ []
   pub groups : NoneInGroups m
 
@@ -88,7 +88,7 @@ LooksTwice job s c entries =
 
 -- Of a job that mends: it logs one Stuck of a place at most, and begins no relay of a place anew
 -- after one that it began there itself ended by its Oddly.
-pub record Mends (job : ℕ) (added : List Entry) : Type 0 where
+pub record MendsOnce (job : ℕ) (added : List Entry) : Type 0 where
   pub one_stuck : (s c : ℕ) → length (filter (is_stuck_at s c) (own job added)) ≤ 1
   pub none_again : (s c : ℕ) (f : Digest) (x between y z : List Entry)
       → added ≡ (x ++ Begin job s c ∷ (between ++ Oddly job s c f ∷ y)) ++ Begin job s c ∷ z
@@ -101,7 +101,7 @@ pub record AreReads (kept : Record) (job : ℕ) (reads : ℕ → List Entry) : T
 
 pub record FetchEntries (kept : Record) (job : ℕ) (w : Section) : Type 0 where
   pub reads : AreReads kept job (mine job w).own
-  pub mends : (g : ℕ) → Mends job (w.added g)
+  pub mends : (g : ℕ) → MendsOnce job (w.added g)
 
 -- `file`: the record was found, enough points of each fragment were seen, and the bytes have its
 -- length and digest

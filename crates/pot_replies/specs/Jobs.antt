@@ -90,11 +90,11 @@ place_in _ = (0, 0)
 abbrev pub Precedes : ℕ × ℕ → ℕ × ℕ → Type 0
 Precedes p q = (p.0 < q.0) ⊎ ((p.0 ≡ q.0) × (p.1 < q.1))
 
-abbrev pub AscendFrom : ℕ × ℕ → List (ℕ × ℕ) → Type 0
-AscendFrom p [] = Unit {0}
-AscendFrom p (q ∷ qs) = Precedes p q × AscendFrom q qs
+abbrev pub PlacesAscendFrom : ℕ × ℕ → List (ℕ × ℕ) → Type 0
+PlacesAscendFrom p [] = Unit {0}
+PlacesAscendFrom p (q ∷ qs) = Precedes p q × PlacesAscendFrom q qs
 
 -- each place comes before the next
 abbrev pub Ascend : List (ℕ × ℕ) → Type 0
 Ascend [] = Unit {0}
-Ascend (p ∷ ps) = AscendFrom p ps
+Ascend (p ∷ ps) = PlacesAscendFrom p ps

@@ -9,8 +9,8 @@ use Rattle.pot_index.specs.declared.listed.Listed as listed
 use Rattle.pot_index.specs.Entries as index
 use Rattle.pot_replies.specs.Sections.{Section, LogPoint, IndexMoment, Widens, mine}
 use Rattle.pot_replies.specs.Settings.{Setting}
-use Rattle.pot_replies.specs.Stores.{IsFull, IsStoreLogFull}
-use Rattle.pot_replies.specs.Listings.{IsIndexFull, IsStoreIndexFull, IsListed, StatusLine}
+use Rattle.pot_replies.specs.Stores.{IsStoreFull, IsStoreLogFull}
+use Rattle.pot_replies.specs.Listings.{IsIndexFull, IsStoreIndexFull, AreNamesListed, StatusLine}
 use Rattle.pot_replies.specs.Listings.{IsStatus}
 use Rattle.pot_replies.specs.Fetches.{IsFile, IsOdd, IsLost, IsFetchFault, IsFetchLogFull}
 use Rattle.pot_replies.specs.Scrubs.{IsScrubbed, IsScrubFault, IsRepaired, IsRepairFault}
@@ -39,7 +39,7 @@ IndexMomentStands =
 abbrev pub FullStands : Type 0
 FullStands =
     (s : Setting) (job : ℕ) (name file : List ℕ) (g : ℕ) (w w' : Section) → Widens job w w'
-    → IsFull s job name file g w → IsFull s job name file g w'
+    → IsStoreFull s job name file g w → IsStoreFull s job name file g w'
 
 abbrev pub StoreLogFullStands : Type 0
 StoreLogFullStands =
@@ -59,7 +59,7 @@ StoreIndexFullStands =
 abbrev pub ListedStands : Type 0
 ListedStands =
     (s : Setting) (job : ℕ) (names : List listed.Listed) (w w' : Section) → Widens job w w'
-    → IsListed s job names w → IsListed s job names w'
+    → AreNamesListed s job names w → AreNamesListed s job names w'
 
 abbrev pub StatusStands : Type 0
 StatusStands =

@@ -32,7 +32,7 @@ abbrev pub IsStoreIndexFull : Setting → ℕ → ℕ → Section → Type 0
 IsStoreIndexFull s size job w = (size ≤ longest) × IsIndexFull s 2 job w
 
 -- `names`: the published names at the Listed entry, in order, each with the length of its file
-pub record IsListed (s : Setting) (job : ℕ) (names : List listed.Listed)
+pub record AreNamesListed (s : Setting) (job : ℕ) (names : List listed.Listed)
     (w : Section) : Type 0 where
   pub groups : NoneInGroups (mine job w)
   pub index : (mine job w).index ≡ plain (Listed job) ∷ []
@@ -43,7 +43,7 @@ pub record IsListed (s : Setting) (job : ℕ) (names : List listed.Listed)
       ≡ map listed_of (names_after (names_read s.read) (w.index_before ++ sofar)).published
 
 -- what the line of a group says of its table
-pub record Counts : Type 0 where
+pub record GroupCounts : Type 0 where
   pub live : ℕ
   pub lost : ℕ
   pub broken : ℕ
@@ -51,7 +51,7 @@ pub record Counts : Type 0 where
   pub column : ℕ
 
 -- the slots of each kind, and the cursor
-abbrev pub counts_of : Table → Counts
+abbrev pub counts_of : Table → GroupCounts
 counts_of t =
     record {
       live = count_by is_live t.slots;
@@ -62,7 +62,7 @@ counts_of t =
     }
 
 -- the line of a group: its counts at the Counted entry
-pub record IsCounted (s : Setting) (job g : ℕ) (counts : Counts) (w : Section) : Type 0 where
+pub record IsGroupCounted (s : Setting) (job g : ℕ) (counts : GroupCounts) (w : Section) : Type 0 where
   pub own_is : own job (w.added g) ≡ Counted job ∷ []
   pub sofar : List Entry
   pub later : List Entry
@@ -77,11 +77,11 @@ pub record IsUncounted (job g : ℕ) (w : Section) : Type 0 where
   pub full : length log ≡ log_bound
 
 pub data StatusLine : Type 0 where
-  Group : (counts : Counts) → StatusLine
+  Group : (counts : GroupCounts) → StatusLine
   GroupFull : StatusLine
 
 abbrev pub IsStatusLine : Setting → ℕ → ℕ → StatusLine → Section → Type 0
-IsStatusLine s job g (Group counts) w = IsCounted s job g counts w
+IsStatusLine s job g (Group counts) w = IsGroupCounted s job g counts w
 IsStatusLine s job g GroupFull w = IsUncounted job g w
 
 -- `status`: a line for each group, in order

@@ -92,23 +92,23 @@ module _ (s : Setting) (before begun : ℕ → List Entry) (job from to : ℕ) w
   at_check = checked before begun job
 
   -- the line began no move
-  abbrev pub BeganNone : Type 0
-  BeganNone = (g : ℕ) → own job (begun g) ≡ []
+  abbrev pub BeganNoMove : Type 0
+  BeganNoMove = (g : ℕ) → own job (begun g) ≡ []
 
   -- `noarchive`
   abbrev pub IsMigrateNoHome : JobEntries → Type 0
-  IsMigrateNoHome m = NoHome s at_check from × BeganNone × IsSilent m
+  IsMigrateNoHome m = NoHome s at_check from × BeganNoMove × IsSilent m
 
   -- `inuse`, of either archive
   abbrev pub IsMigrateInUse : ℕ → JobEntries → Type 0
   IsMigrateInUse number m =
       (((number ≡ from) × GoesElsewhere s at_check from to)
       ⊎ ((number ≡ to) × IsTakenTo s at_check from to))
-      × BeganNone × IsSilent m
+      × BeganNoMove × IsSilent m
 
   -- the line began the move of the column, or goes on with one that stood
-  abbrev pub Begins : ℕ → ℕ → Type 0
-  Begins g c =
+  abbrev pub BeginsMove : ℕ → ℕ → Type 0
+  BeginsMove g c =
       (MayBegin s at_check from to g c × (own job (begun g) ≡ MoveBegin job c to ∷ []))
       ⊎ (MayGoOn s at_check from to g c × (own job (begun g) ≡ []))
 
@@ -120,7 +120,7 @@ module _ (s : Setting) (before begun : ℕ → List Entry) (job from to : ℕ) w
   pub record IsMigrated (slots : ℕ) (w : Section) : Type 0 where
     pub group : ℕ
     pub column : ℕ
-    pub begins : Begins group column
+    pub begins : BeginsMove group column
     pub elsewhere : BeganElsewhere group
     pub only : IsOnlyIn group (mine job w)
     pub moves : EachIs (is_move_of column) (own job (w.added group))
@@ -129,7 +129,7 @@ module _ (s : Setting) (before begun : ℕ → List Entry) (job from to : ℕ) w
 
   -- `fault g c`: steps of the move, and then a Fault at its column
   pub record IsMigrateFault (g column : ℕ) (w : Section) : Type 0 where
-    pub begins : Begins g column
+    pub begins : BeginsMove g column
     pub elsewhere : BeganElsewhere g
     pub only : IsOnlyIn g (mine job w)
     pub sofar : List Entry
@@ -141,14 +141,14 @@ module _ (s : Setting) (before begun : ℕ → List Entry) (job from to : ℕ) w
   pub record IsBeginLogFull (g : ℕ) (w : Section) : Type 0 where
     pub column : ℕ
     pub may : MayBegin s at_check from to g column
-    pub none : BeganNone
+    pub none : BeganNoMove
     pub silent : IsSilent (mine job w)
     pub full : length (at_check g) ≡ log_bound
 
   -- `logfull g`, where a step of it was refused
   pub record IsStepLogFull (g : ℕ) (w : Section) : Type 0 where
     pub column : ℕ
-    pub begins : Begins g column
+    pub begins : BeginsMove g column
     pub elsewhere : BeganElsewhere g
     pub only : IsOnlyIn g (mine job w)
     pub moves : EachIs (is_move_of column) (own job (w.added g))

@@ -24,7 +24,7 @@ use Rattle.pot_replies.specs.Sections.{Section, mine, LogPoint, IndexMoment, Non
 use Rattle.pot_replies.specs.Sections.{names_after}
 use Rattle.pot_replies.specs.Settings.{Setting}
 use Rattle.pot_replies.specs.Stores.{Placed, place_of, in_group, AreSpread, Puts, IsUnkept}
-use Rattle.pot_replies.specs.Fetches.{FoundThen, Found, AreReads, Mends, SeesAll}
+use Rattle.pot_replies.specs.Fetches.{FoundThen, Found, AreReads, MendsOnce, SeesAll}
 
 -- the job whose random bytes a renewal draws
 abbrev pub renewing : ℕ → ℕ
@@ -40,7 +40,7 @@ pub record Fetched (behind : List Logged) (s : Setting) (job : ℕ) (name : List
   pub reads : ℕ → List Entry
   pub own_is : (g : ℕ) → (mine job w).own g ≡ reads g ++ puts g
   pub are_reads : AreReads kept job reads
-  pub mends : (g : ℕ) → Mends job (w.added g)
+  pub mends : (g : ℕ) → MendsOnce job (w.added g)
   pub sees : SeesAll reads kept
   pub long : length file ≡ kept.length
   pub digest : digest_of file ≡ kept.digest

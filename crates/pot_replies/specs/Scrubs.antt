@@ -13,7 +13,7 @@ use Rattle.pot_replies.specs.Jobs.{is_seen, is_gone, is_look, is_relay, is_mende
 use Rattle.pot_replies.specs.Jobs.{place_in, EachIs, Ascend}
 use Rattle.pot_replies.specs.Sections.{Section, mine, LogPoint, IsOnlyIn, AlwaysAt}
 use Rattle.pot_replies.specs.Settings.{Setting}
-use Rattle.pot_replies.specs.Fetches.{Mends}
+use Rattle.pot_replies.specs.Fetches.{MendsOnce}
 
 -- at some point of these entries, which come behind those before, the slot passes the test
 abbrev pub PassesOnce : (SlotState → Bool) → Table → List Entry → List Entry → ℕ → ℕ → Type 0
@@ -53,7 +53,7 @@ pub record IsScrubbed (s : Setting) (job g seen gone : ℕ) (w : Section) : Type
 -- the entries of a repair: those of relays alone
 pub record AreRelays (job : ℕ) (added : List Entry) : Type 0 where
   pub kinds : EachIs is_relay (own job added)
-  pub mends : Mends job added
+  pub mends : MendsOnce job added
 
 -- `repaired`: so many places were mended and so many left, and each place that was unsound all the
 -- time was left
@@ -84,7 +84,7 @@ pub record IsRepairFault (job g column : ℕ) (w : Section) : Type 0 where
   pub stripe : ℕ
   pub own_is : own job (w.added g) ≡ sofar ++ Fault job stripe column ∷ []
   pub kinds : EachIs is_relay sofar
-  pub mends : Mends job (w.added g)
+  pub mends : MendsOnce job (w.added g)
   pub only : IsOnlyIn g (mine job w)
 
 -- `logfull g`: the log was at its bound, and some place was to be done yet, behind all looks of a

@@ -98,7 +98,7 @@ pub record IsOfJobs (from n : ℕ) (w : Section) : Type 0 where
       → IsAmong from n (job_in e.entry)
 
 -- one section and then the rest are the whole
-pub record Follows (one rest whole : Section) : Type 0 where
+pub record FollowsSection (one rest whole : Section) : Type 0 where
   pub begins : (g : ℕ) → one.before g ≡ whole.before g
   pub is_added : (g : ℕ) → whole.added g ≡ one.added g ++ rest.added g
   pub goes_on : (g : ℕ) → rest.before g ≡ whole.before g ++ one.added g
@@ -107,8 +107,8 @@ pub record Follows (one rest whole : Section) : Type 0 where
   pub index_goes_on : rest.index_before ≡ whole.index_before ++ one.index_added
 
 -- nothing was added
-abbrev pub IsEmpty : Section → Type 0
-IsEmpty w = ((g : ℕ) → w.added g ≡ []) × (w.index_added ≡ [])
+abbrev pub IsSectionEmpty : Section → Type 0
+IsSectionEmpty w = ((g : ℕ) → w.added g ≡ []) × (w.index_added ≡ [])
 
 -- THE TWO HALVES OF A COMMAND
 

@@ -2,7 +2,7 @@
 use Rattle.std.specs.Prelude.{◌≡◌, ℕ, ◌+◌, List, [], ◌∷◌, ◌++◌, Some, take, slice_get}
 use Rattle.pot_index.specs.Entries as index
 use Rattle.pot_machine.specs.Logs.{own}
-use Rattle.pot_replies.specs.Sections.{Section, MovesThenRest, IsAmong, IsOfJobs, Follows, IsEmpty}
+use Rattle.pot_replies.specs.Sections.{Section, MovesThenRest, IsAmong, IsOfJobs, FollowsSection, IsSectionEmpty}
 use Rattle.pot_replies.specs.Sessions.{Step, jobs_in, jobs_of, AreSections, Answered, Replied}
 
 -- What all logs of a session have of a job is what its step's section has.
@@ -20,14 +20,14 @@ module _ {Line Reply : Type 0} (Row : ℕ → Line → List Reply → (w : Secti
   where
     -- where nothing was added, no step has no replies
     abbrev pub RepliedNone : Type 0
-    RepliedNone = (job : ℕ) (w : Section) → IsEmpty w → Replied Row job [] [] w
+    RepliedNone = (job : ℕ) (w : Section) → IsSectionEmpty w → Replied Row job [] [] w
 
     -- and one step more is one section more
     abbrev pub RepliedMore : Type 0
     RepliedMore =
         (job : ℕ) (steps : List (Step Line)) (rs : List Reply) (c : Step Line) (now : List Reply)
         (sofar one whole : Section) (h : MovesThenRest one)
-        → Replied Row job steps rs sofar → Follows sofar one whole
+        → Replied Row job steps rs sofar → FollowsSection sofar one whole
         → IsOfJobs (job + jobs_of steps) (jobs_in c) one
         → Answered Row (job + jobs_of steps) c now one h
         → Replied Row job (steps ++ c ∷ []) (rs ++ now) whole

@@ -3,7 +3,7 @@
 use Rattle.std.specs.Prelude.{◌≡◌, ℕ, suc, ◌+◌, List, [], ◌∷◌, ◌++◌, length}
 use Rattle.pot_machine.specs.declared.entry.Entry.{Entry}
 use Rattle.pot_machine.specs.Logs.{job_of}
-use Rattle.pot_replies.specs.Sections.{Section, MovesThenRest, IsOfJobs, Follows, IsEmpty}
+use Rattle.pot_replies.specs.Sections.{Section, MovesThenRest, IsOfJobs, FollowsSection, IsSectionEmpty}
 
 -- one line, or the lines of a batch
 pub data Step (Line : Type 0) : Type 0 where
@@ -23,9 +23,9 @@ module _ {Line : Type 0} where
   -- What was added is these sections, one for each step, in order, and each has entries of its
   -- step's jobs alone. The jobs are numbered from this one on.
   abbrev pub AreSections : ℕ → List (Step Line) → List Section → Section → Type 0
-  AreSections job [] [] w = IsEmpty w
+  AreSections job [] [] w = IsSectionEmpty w
   AreSections job (c ∷ cs) (one ∷ ones) w =
-      (rest : Section) × Follows one rest w × IsOfJobs job (jobs_in c) one
+      (rest : Section) × FollowsSection one rest w × IsOfJobs job (jobs_in c) one
       × AreSections (job + jobs_in c) cs ones rest
   AreSections job _ _ w = ⊥
 

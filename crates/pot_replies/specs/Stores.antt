@@ -73,7 +73,7 @@ pub record IsLong (size : ℕ) (m : JobEntries) : Type 0 where
   pub silent : IsSilent m
 
 -- `exists`: the name was taken, and nothing else was logged
-pub record IsTaken (job : ℕ) (name : List ℕ) (size : ℕ) (m : JobEntries) : Type 0 where
+pub record IsStoreRefused (job : ℕ) (name : List ℕ) (size : ℕ) (m : JobEntries) : Type 0 where
   pub short : size ≤ longest
   pub index : m.index ≡ plain (Taken job name) ∷ []
   pub groups : NoneInGroups m
@@ -98,7 +98,7 @@ pub record IsStored (s : Setting) (job : ℕ) (name file : List ℕ) (pieces sha
 
 -- A store ended at its block for group g: the blocks before were put, the name was abandoned, and
 -- the job's entries in g end by these.
-pub record Stops (s : Setting) (job : ℕ) (name file : List ℕ) (g : ℕ) (last : List Entry)
+pub record StopsStore (s : Setting) (job : ℕ) (name file : List ℕ) (g : ℕ) (last : List Entry)
     (m : JobEntries) : Type 0 where
   pub short : length file ≤ longest
   pub placed : List Placed
@@ -119,15 +119,15 @@ pub record IsStoreFault (s : Setting) (job : ℕ) (name file : List ℕ) (g colu
     (m : JobEntries) : Type 0 where
   pub passed : List Passed
   pub last : Entry
-  pub stops : Stops s job name file g (skips job passed ++ last ∷ []) m
+  pub stops : StopsStore s job name file g (skips job passed ++ last ∷ []) m
   pub fault : ((stripe : ℕ) × (last ≡ Fault job stripe column))
       ⊎ IsUnkept s.rack.columns job stops.next column last
 
 -- `full`: the stripes were passed, and at the moment the cursor is behind the last one; the log has
 -- room then, or the last entry is the Skip of a stripe passed
-pub record IsFull (s : Setting) (job : ℕ) (name file : List ℕ) (g : ℕ) (w : Section) : Type 0 where
+pub record IsStoreFull (s : Setting) (job : ℕ) (name file : List ℕ) (g : ℕ) (w : Section) : Type 0 where
   pub passed : List Passed
-  pub stops : Stops s job name file g (skips job passed) (mine job w)
+  pub stops : StopsStore s job name file g (skips job passed) (mine job w)
   pub log : List Entry
   pub moment : LogPoint job (w.before g) (w.added g) log
   pub behind : (replayed (s.first g) log).cursor.stripe ≡ (s.first g).stripes
@@ -140,7 +140,7 @@ pub record IsStoreLogFull (s : Setting) (job : ℕ) (name file : List ℕ) (g : 
   pub passed : List Passed
   pub stripe : ℕ
   pub gone : Option ℕ
-  pub stops : Stops s job name file g (skips job passed ++ gone_entries job stripe gone)
+  pub stops : StopsStore s job name file g (skips job passed ++ gone_entries job stripe gone)
       (mine job w)
   pub log : List Entry
   pub moment : LogPoint job (w.before g) (w.added g) log

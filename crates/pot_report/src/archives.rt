@@ -1,8 +1,9 @@
 //! The archives that a desk names, and how they stand.
 //!
-//! A fetch takes blocks of the current split of a file alone. So a stripe in which no such block stands is in no use any more: what is
-//! gone there of older splits, and the parity of it, needs no mending. A stripe is mended as a whole, so in a stripe that is in use
-//! every block that is gone needs it.
+//! A fetch takes blocks of the current split of a file alone. So a stripe in which no such block
+//! stands is in no use any more: what is gone there of older splits, and the parity of it, needs no
+//! mending. A stripe is mended as a whole, so in a stripe that is in use every block that is gone
+//! needs it.
 
 ghost use Rattle.std.specs.Prelude.{◌<◌};
 ghost use Rattle.pot_machine.specs.Table.{width};
@@ -26,7 +27,8 @@ pub struct Holding {
     pub lost: u32,
     /// So many blocks are gone, and parity does not give them back.
     pub broken: u32,
-    /// So many of those that are gone need no mending: no file has a block of its current split in their stripes.
+    /// So many of those that are gone need no mending: no file has a block of its current split in
+    /// their stripes.
     pub idle: u32,
     /// So many of the others that are gone are not given back by parity.
     pub stuck: u32,

@@ -5,8 +5,8 @@ use pot_script::Reply;
 use serde_json::{Value, json};
 use std::alloc::{AllocError, Global};
 
-/// A reply as one line of JSON, without its LF. The member `reply` is the first word that a session writes, and the
-/// bytes of a file are left out.
+/// A reply as one line of JSON, without its LF. The member `reply` is the first word that a session
+/// writes, and the bytes of a file are left out.
 pub fn reply_json(alloc: Global, reply: &Reply) -> Result<String, AllocError> {
     let value = match reply {
         Reply::Stored { .. } | Reply::Renewed { .. } => of_split(alloc, reply)?,

@@ -8,8 +8,9 @@ use std::alloc::{AllocError, Global};
 /// The most bytes of file in a piece.
 pub const PIECE: u64 = 864;
 
-/// How many blocks a group takes of a file of so many bytes. Fragments stand one after another, from piece to piece, and shard x of
-/// fragment t, both from 0, goes to group t + x modulo the number of groups.
+/// How many blocks a group takes of a file of so many bytes. Fragments stand one after another,
+/// from piece to piece, and shard x of fragment t, both from 0, goes to group t + x modulo the
+/// number of groups.
 pub fn blocks_of(rack: &Rack, length: u64, group: u8) -> u64 {
     let pieces = length.div_ceil(PIECE).max(1);
     let fragments = pieces.saturating_mul(u64::from(rack.geometry.fragments));
@@ -21,7 +22,8 @@ pub fn blocks_of(rack: &Rack, length: u64, group: u8) -> u64 {
     blocks
 }
 
-// How many of so many fragments put the shard into the group: one, and from then on each as many fragments later as there are groups.
+// How many of so many fragments put the shard into the group: one, and from then on each as many
+// fragments later as there are groups.
 fn turns_of(groups: u8, fragments: u64, (shard, group): (u8, u8)) -> u64 {
     let groups = u64::from(groups).max(1);
     let behind = u64::from(shard) % groups;

@@ -1,7 +1,9 @@
-//! What a program for people tells: sizes, the shape of a new archive, the room that is left, the archives that a desk names and how
-//! they stand, what is exposed to some of them, and replies as lines of text or of JSON.
+//! What a program for people tells: sizes, the shape of a new archive, the room that is left, the
+//! archives that a desk names and how they stand, what is exposed to some of them, and replies as
+//! lines of text or of JSON.
 //!
-//! It opens no file and holds no session. Of its texts nothing is claimed but that they are made without a fault.
+//! It opens no file and holds no session. Of its texts nothing is claimed but that they are made
+//! without a fault.
 #![tactic(auto)]
 
 mod archives;

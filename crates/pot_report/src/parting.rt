@@ -1,7 +1,9 @@
-//! The list of parts of a file that is longer than a session stores: the last thing that is stored of it.
+//! The list of parts of a file that is longer than a session stores: the last thing that is stored
+//! of it.
 //!
-//! It is `parts COUNT LENGTH DIGEST NAME` and a line `part DIGEST` for each part, in order. It stands under the name of part 0.
-//! With it a file is joined from its parts in whatever order these are found.
+//! It is `parts COUNT LENGTH DIGEST NAME` and a line `part DIGEST` for each part, in order. It
+//! stands under the name of part 0. With it a file is joined from its parts in whatever order these
+//! are found.
 
 use crate::texts::{digest_text, name_text};
 use pot_bytes::{Digest, Name, digest_of};

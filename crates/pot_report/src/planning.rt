@@ -71,8 +71,8 @@ const MOST_STRIPES: u64 = 4096;
 /// The bits that a pointer leaves out where nobody asks for another number.
 const BLUR: u8 = 16;
 
-// How many groups, data columns and stripes have room for so many blocks of a place: first more groups at each place, up to 16 in all,
-// and then more columns than three.
+// How many groups, data columns and stripes have room for so many blocks of a place: first more
+// groups at each place, up to 16 in all, and then more columns than three.
 fn shape_for(sites: u8, blocks: u64) -> Option<(u8, u8, u32)> {
     for columns in 3u8..=16 {
         for groups in 1u8..=MOST_GROUPS {
@@ -217,7 +217,8 @@ impl Plan {
     }
 }
 
-/// How many places an archive has: one for each shard, where as many groups are at each, and else one for each group.
+/// How many places an archive has: one for each shard, where as many groups are at each, and else
+/// one for each group.
 pub fn places_of(rack: &Rack) -> u8 {
     let shards = rack.geometry.shards;
     if shards > 0 && rack.groups % shards == 0 {
@@ -227,7 +228,8 @@ pub fn places_of(rack: &Rack) -> u8 {
     }
 }
 
-/// The place of a group. Shards of one fragment stand in groups one after another, and so at different places.
+/// The place of a group. Shards of one fragment stand in groups one after another, and so at
+/// different places.
 pub fn place_of(rack: &Rack, group: u8) -> u8 {
     group % places_of(rack).max(1)
 }

@@ -36,8 +36,9 @@ fn scaled(bytes: u64) -> (u64, &'static str) {
     (tenths, last)
 }
 
-/// The number of bytes that a text says: decimal digits, and behind them nothing, `B`, or `K`, `M`, `G` or `T` with or without
-/// `B` for powers of 1,000 and with `iB` for powers of 1,024. None where it says none, or more than 2^64 - 1.
+/// The number of bytes that a text says: decimal digits, and behind them nothing, `B`, or `K`, `M`,
+/// `G` or `T` with or without `B` for powers of 1,000 and with `iB` for powers of 1,024. None where
+/// it says none, or more than 2^64 - 1.
 pub fn read_size(text: &str) -> Option<u64> {
     let digits = text
         .bytes()

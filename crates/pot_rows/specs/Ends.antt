@@ -17,9 +17,9 @@ abbrev pub first_of : {T E O : Type 0} → (T → List E) → (T → O) → Turn
 first_of log origin t = first_view (log (made_with t)) (origin (made_with t))
 
 -- these are the first passes of these turns, one of each, and none of them ever entered
-abbrev pub AreFirst : {T E O : Type 0} {g : Ghosts T E O} → (T → List E) → (T → O)
+abbrev pub AreFirstOfTurns : {T E O : Type 0} {g : Ghosts T E O} → (T → List E) → (T → O)
     → List (Turn T E O) → List (Pass T E O g) → Type 0
-AreFirst log origin turns passes =
+AreFirstOfTurns log origin turns passes =
     (map turn_of passes ≡ map name_of turns) × (map view passes ≡ map (first_of log origin) turns)
 
 module _ {E O : Type 0} where

@@ -4,7 +4,7 @@ use Rattle.pot_turn.specs.declared.view.View.{View}
 use Rattle.pot_worked.specs.WroteOnlyFor.{added, WroteOnlyFor, OnlyWriterOf, IsTurn}
 use Rattle.pot_worked.specs.Laws.{AllOf}
 use Rattle.pot_worked.specs.Batches.{Carried, Joins}
-use Rattle.pot_worked.specs.OnlyWriter.{Extends, OnlyWriter, IsWhole}
+use Rattle.pot_worked.specs.OnlyWriter.{Extends, OnlyWriter, IsTurnWhole}
 use Rattle.pot_rows.specs.Rows.{PassRow, view_at, with_view}
 use Rattle.pot_rows.specs.Ties.{RowTied}
 use Rattle.pot_rows.specs.Parts.{RowJoined}
@@ -94,7 +94,7 @@ RowOnlyWriterOfAny E O =
 
 abbrev pub RowOnlyWriterAtClose : (E O : Type 0) → Type 0
 RowOnlyWriterAtClose E O =
-    (u x : PassRow E O) → RowExtends u x → ((at : ℕ) → IsWhole (view_at u at) (view_at x at))
+    (u x : PassRow E O) → RowExtends u x → ((at : ℕ) → IsTurnWhole (view_at u at) (view_at x at))
     → RowOnlyWriter u x
 
 -- A BATCH

@@ -2,7 +2,7 @@
 ghost use Rattle.std.specs.Prelude.{◌≡◌, ◌+◌, ◌≤◌, [], ◌++◌, IsTrue, length, map, reverse};
 ghost use Rattle.std.specs.Vec.{vec_capacity};
 ghost use Rattle.pot_turn.specs.Passes.{made_with};
-ghost use Rattle.pot_rows.specs.Ends.{AreFirst};
+ghost use Rattle.pot_rows.specs.Ends.{AreFirstOfTurns};
 
 use crate::{Passes, Turns};
 use pot_turn::{Kept, NoMemory, Pass, Turn, TurnRefused};
@@ -19,7 +19,7 @@ fn make_turns<T: Kept>(
     requires empty { (turns.old.items ≡ []) × (passes.old.items ≡ []) }
     requires room { (length values.old.items ≤ vec_capacity turns.old)
         × (length values.old.items ≤ vec_capacity passes.old) }
-    ensures first { AreFirst T.log T.origin turns.new.items passes.new.items }
+    ensures first { AreFirstOfTurns T.log T.origin turns.new.items passes.new.items }
     ensures order { reverse values.old.items
         ≡ map made_with turns.new.items ++ reverse values.new.items }
     ensures all { IsTrue result → values.new.items ≡ [] }
@@ -43,7 +43,7 @@ fn make_turns<T: Kept>(
 
 /// Hands out the values of turns that no pass ever entered, from the last one to the first.
 fn unmake_turns<T: Kept>(values: &mut Vec<T>, mut turns: Vec<Turn<T>>, mut passes: Vec<Pass<T>>)
-    requires first { AreFirst T.log T.origin turns.items passes.items }
+    requires first { AreFirstOfTurns T.log T.origin turns.items passes.items }
     requires room { length values.old.items + length turns.items ≤ vec_capacity values.old }
     ensures back { values.new.items ≡ values.old.items ++ reverse (map made_with turns.items) }
     ensures capacity { vec_capacity values.new ≡ vec_capacity values.old }

@@ -3,8 +3,8 @@
 //! Values that are used side by side each stand under a turn of their own, as the groups of a vault
 //! do. Whoever works with them has a row of passes, one of each turn. A contract sees lists: the
 //! names of the turns with the values that they were made with (`TurnRow` of specs/Rows.antt), and
-//! what each pass knows of its turn (`PassRow`). So what is said of a place is one equation, and no caller meets a turn or a
-//! pass of its own.
+//! what each pass knows of its turn (`PassRow`). So what is said of a place is one equation, and no
+//! caller meets a turn or a pass of its own.
 //!
 //! | call | what it does at a place |
 //! |---|---|

@@ -32,7 +32,8 @@ one_job_less : (n : ℕ) (c : Command) → is_job (kind_of c) ≡ true → after
 one_job_less n commands.End h = absurd (cc)
 one_job_less n _ h = refl
 
--- so many jobs of the grammar stand at the front of these commands, then `end`, and then commands outside a batch
+-- so many jobs of the grammar stand at the front of these commands, then `end`, and then commands
+-- outside a batch
 pub record IsBatch (rack : Rack) (count : ℕ) (after : List Command) : Type 0 where
   pub jobs : List Command
   pub rest : List Command

@@ -1,4 +1,5 @@
--- Commands and their lines: the words of a line tell its command, but for the file of a `store` line.
+-- Commands and their lines: the words of a line tell its command, but for the file of a `store`
+-- line.
 use Rattle.std.proofs.Common.{◌≡◌, ◌≤◌, ◌<◌, ◌^◌, ℕ, true, false, List, [], ◌∷◌, ◌++◌, length, get_or, take, drop, refl, sym, ap, ◌∙◌, append_assoc, arith, length-append}
 use Rattle.std.specs.Prelude.{All, codes, decimal, nat_eq, not}
 use Rattle.std.specs.List.{list_all}

@@ -13,7 +13,7 @@ use Rattle.pot_script.specs.declared.command.Command.TheVariants as commands
 use Rattle.pot_script.specs.declared.kind.Kind.{Kind}
 use Rattle.pot_script.specs.declared.kind.Kind.TheVariants as kinds
 use Rattle.pot_script.specs.Batches.{may_stand}
-use Rattle.pot_script.specs.Commands.{IsCommand, IsGroup, arguments, geometry_words, command_line, command_text, stated_bytes, most_bytes}
+use Rattle.pot_script.specs.Commands.{IsCommand, IsGroupNumber, arguments, geometry_words, command_line, command_text, stated_bytes, most_bytes}
 use Rattle.pot_script.specs.Kinds.{keyword, kind_of}
 use Rattle.pot_script.specs.Lines.{Cuts, IsLineOf}
 use Rattle.pot_script.specs.Scripts.{NoCommandAt}
@@ -114,7 +114,7 @@ unfinished rack words name rest n small words_are none c after is e =
     none file after (sym len) (f ∙ append_assoc file (codes "\n") after)) c is.kind_is is e
 
 -- a number that is that of no group
-pub not_a_group : (rack : Rack) (words : List (List ℕ)) (n : ℕ) → n ≤ 255 → words ≡ decimal n ∷ [] → rack.groups ≤ n → (group : ℕ) → IsGroup rack group → words ≢ decimal group ∷ []
+pub not_a_group : (rack : Rack) (words : List (List ℕ)) (n : ℕ) → n ≤ 255 → words ≡ decimal n ∷ [] → rack.groups ≤ n → (group : ℕ) → IsGroupNumber rack group → words ≢ decimal group ∷ []
 not_a_group rack words n small words_are past group is e =
     let same = decimal_injective n group (omega arith) (omega (arith, is.1)) (first_words (decimal n) (decimal group) [] [] (sym words_are ∙ e)).0 in
     omega (arith, same, is.0)

@@ -13,7 +13,7 @@ use Rattle.pot_script.specs.Batches.{may_stand, after_command}
 use Rattle.pot_script.specs.Commands.{IsCommand, command_line, command_text, stated_bytes}
 use Rattle.pot_script.specs.Faults.{IfBadLine, ReadsAs, RefusesAt}
 use Rattle.pot_script.specs.Kinds.{kind_of}
-use Rattle.pot_script.specs.Scripts.{AreSteps, IsStep, IsScript, BreaksAt, GoesOnAt, LeavesAt, TooLong, Breaks, GoesOn, after_commands, script_text}
+use Rattle.pot_script.specs.Scripts.{AreSteps, IsStep, IsScript, BreaksAtLine, GoesOnAt, LeavesAtLine, TooLong, Breaks, GoesOn, after_commands, script_text}
 use Rattle.pot_script.proofs.CommandLemmas.{one_command}
 
 -- one command more
@@ -58,7 +58,7 @@ stands_script {rack} {bytes} {commands} s = record {
   ended = quit_ends rack (after_commands None s.steps) [];
 }
 
-stands_break : {rack : Rack} {bytes : List ℕ} {number : ℕ} (b : BreaksAt rack bytes number) → StandsIn rack bytes b.steps b.rest
+stands_break : {rack : Rack} {bytes : List ℕ} {number : ℕ} (b : BreaksAtLine rack bytes number) → StandsIn rack bytes b.steps b.rest
 stands_break b = record { each = b.each; whole = b.spelled; ended = λ c after is. b.broken c after is.is is.stands }
 
 stands_goes_on : {rack : Rack} {bytes : List ℕ} {number : ℕ} (g : GoesOnAt rack bytes number) → StandsIn rack bytes g.steps (command_text Quit ++ g.rest)
@@ -68,19 +68,19 @@ pub one_script : {rack : Rack} {bytes : List ℕ} {cs ds : List Command} → IsS
 one_script s t = s.ended ∙ ap (λ (steps : List Command). steps ++ Quit ∷ []) (one_stand (stands_script s) (stands_script t)).0 ∙ sym t.ended
 
 -- `quit` does not stand where no command does that may
-broken_not_quit : {rack : Rack} {bytes rest : List ℕ} {steps : List Command} {number : ℕ} (b : BreaksAt rack bytes number) → StandsIn rack bytes steps (command_text Quit ++ rest) → after_commands None steps ≡ None → ⊥
+broken_not_quit : {rack : Rack} {bytes rest : List ℕ} {steps : List Command} {number : ℕ} (b : BreaksAtLine rack bytes number) → StandsIn rack bytes steps (command_text Quit ++ rest) → after_commands None steps ≡ None → ⊥
 broken_not_quit {rack} {bytes} {rest} {steps} b s closed =
     let same = one_stand (stands_break b) s in
     b.broken Quit rest tt (ap (λ batch. may_stand batch (kind_of Quit)) (ap (after_commands None) same.0 ∙ closed)) same.1
 
-pub no_fault : {rack : Rack} {bytes : List ℕ} {cs : List Command} {number : ℕ} → IsScript rack bytes cs → LeavesAt rack bytes number → ⊥
+pub no_fault : {rack : Rack} {bytes : List ℕ} {cs : List Command} {number : ℕ} → IsScript rack bytes cs → LeavesAtLine rack bytes number → ⊥
 no_fault s (TooLong long at) = omega (arith, s.short)
 no_fault s (Breaks short b) = broken_not_quit b (stands_script s) s.closed
 no_fault s (GoesOn short g) =
     let none : [] ≡ g.rest = append_cancel_left (command_text Quit) [] g.rest (one_stand (stands_script s) (stands_goes_on g)).1 in
     omega (arith, g.some, ap length none)
 
-pub one_fault : {rack : Rack} {bytes : List ℕ} {m n : ℕ} → LeavesAt rack bytes m → LeavesAt rack bytes n → m ≡ n
+pub one_fault : {rack : Rack} {bytes : List ℕ} {m n : ℕ} → LeavesAtLine rack bytes m → LeavesAtLine rack bytes n → m ≡ n
 one_fault (TooLong long at) (TooLong too here) = at ∙ sym here
 one_fault (TooLong long at) (Breaks short b) = absurd (omega arith)
 one_fault (TooLong long at) (GoesOn short g) = absurd (omega arith)
@@ -92,12 +92,12 @@ one_fault (GoesOn short g) (Breaks too b) = absurd (broken_not_quit b (stands_go
 one_fault (GoesOn short g) (GoesOn too h) = g.counted ∙ ap (λ (steps : List Command). length steps + 2) (one_stand (stands_goes_on g) (stands_goes_on h)).0 ∙ sym h.counted
 
 -- so an answer that tells the truth is the only one
-pub script_is_read : (rack : Rack) (r : Result (Vec Command Global) ScriptFault) (bytes : List ℕ) (script : List Command) → IfOk r (λ commands. IsScript rack bytes commands.items) → IfErr r (IfBadLine (LeavesAt rack bytes)) → IsScript rack bytes script → ReadsAs r script
+pub script_is_read : (rack : Rack) (r : Result (Vec Command Global) ScriptFault) (bytes : List ℕ) (script : List Command) → IfOk r (λ commands. IsScript rack bytes commands.items) → IfErr r (IfBadLine (LeavesAtLine rack bytes)) → IsScript rack bytes script → ReadsAs r script
 script_is_read rack (Ok commands) bytes script ok bad s = one_script ok s
 script_is_read rack (Err (BadLine number)) bytes script ok bad s = no_fault s bad
 script_is_read rack (Err NoMemory) bytes script ok bad s = tt
 
-pub fault_is_told : (rack : Rack) (r : Result (Vec Command Global) ScriptFault) (bytes : List ℕ) (line : ℕ) → IfOk r (λ commands. IsScript rack bytes commands.items) → IfErr r (IfBadLine (LeavesAt rack bytes)) → LeavesAt rack bytes line → RefusesAt r line
+pub fault_is_told : (rack : Rack) (r : Result (Vec Command Global) ScriptFault) (bytes : List ℕ) (line : ℕ) → IfOk r (λ commands. IsScript rack bytes commands.items) → IfErr r (IfBadLine (LeavesAtLine rack bytes)) → LeavesAtLine rack bytes line → RefusesAt r line
 fault_is_told rack (Ok commands) bytes line ok bad at = no_fault ok at
 fault_is_told rack (Err (BadLine number)) bytes line ok bad at = one_fault bad at
 fault_is_told rack (Err NoMemory) bytes line ok bad at = tt

@@ -51,7 +51,8 @@ words_in-one line h = slice_split_none (λ (b : ℕ). b == 32) line (no_space li
 pub some_words : (line : List ℕ) → words_in line ≢ []
 some_words line e = omega (arith, length-slice_split (λ (b : ℕ). b == 32) line, ap (λ (words : List (List ℕ)). length words) e)
 
--- words without a space, joined by spaces, are the words of the line, and the line is its words joined
+-- words without a space, joined by spaces, are the words of the line, and the line is its words
+-- joined
 pub words_in-join : (word : List ℕ) (others : List (List ℕ)) → All (Without 32) (word ∷ others) → words_in (join_with_byte 32 (word ∷ others)) ≡ word ∷ others
 words_in-join word [] h = words_in-one word (h 0 [] (omega arith))
 words_in-join word (next ∷ others) h =

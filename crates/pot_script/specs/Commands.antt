@@ -33,8 +33,8 @@ arguments (commands.Renew name geometry) = name ∷ geometry_words geometry
 arguments commands.Quit = []
 
 -- the rack has a group of this number, which is a byte
-abbrev pub IsGroup : Rack → ℕ → Type 0
-IsGroup rack group = (group < rack.groups) × (group ≤ 255)
+abbrev pub IsGroupNumber : Rack → ℕ → Type 0
+IsGroupNumber rack group = (group < rack.groups) × (group ≤ 255)
 
 -- the numbers of a command are within their limits
 abbrev pub IsCommand : Rack → Command → Type 0
@@ -42,8 +42,8 @@ IsCommand rack (commands.Store name file) = IsName name × (length file ≤ most
 IsCommand rack (commands.Fetch name) = IsName name
 IsCommand rack commands.List = Unit {0}
 IsCommand rack commands.Status = Unit {0}
-IsCommand rack (commands.Scrub group) = IsGroup rack group
-IsCommand rack (commands.Repair group) = IsGroup rack group
+IsCommand rack (commands.Scrub group) = IsGroupNumber rack group
+IsCommand rack (commands.Repair group) = IsGroupNumber rack group
 IsCommand rack (commands.Replace from to) = (from ≤ 511) × (to ≤ 511)
 IsCommand rack (commands.Migrate from to) = (from ≤ 511) × (to ≤ 511)
 IsCommand rack (commands.Together count) = (1 ≤ count) × (count ≤ 1024)

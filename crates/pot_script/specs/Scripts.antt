@@ -45,7 +45,7 @@ NoCommandAt rack batch bytes =
     → bytes ≢ command_text c ++ after
 
 -- commands stand before the line of this number, and none that may stand there stands at it
-pub record BreaksAt (rack : Rack) (bytes : List ℕ) (number : ℕ) : Type 0 where
+pub record BreaksAtLine (rack : Rack) (bytes : List ℕ) (number : ℕ) : Type 0 where
   pub steps : List Command
   pub each : AreSteps rack None steps
   pub rest : List ℕ
@@ -65,7 +65,7 @@ pub record GoesOnAt (rack : Rack) (bytes : List ℕ) (number : ℕ) : Type 0 whe
 
 -- The first line that leaves the grammar has this number, from 1 on. A script that is too long
 -- leaves it at 0.
-pub data LeavesAt (rack : Rack) (bytes : List ℕ) (number : ℕ) : Type 0 where
-  TooLong : most_bytes < length bytes → number ≡ 0 → LeavesAt rack bytes number
-  Breaks : length bytes ≤ most_bytes → BreaksAt rack bytes number → LeavesAt rack bytes number
-  GoesOn : length bytes ≤ most_bytes → GoesOnAt rack bytes number → LeavesAt rack bytes number
+pub data LeavesAtLine (rack : Rack) (bytes : List ℕ) (number : ℕ) : Type 0 where
+  TooLong : most_bytes < length bytes → number ≡ 0 → LeavesAtLine rack bytes number
+  Breaks : length bytes ≤ most_bytes → BreaksAtLine rack bytes number → LeavesAtLine rack bytes number
+  GoesOn : length bytes ≤ most_bytes → GoesOnAt rack bytes number → LeavesAtLine rack bytes number

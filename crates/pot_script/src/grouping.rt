@@ -44,7 +44,8 @@ pub fn group_steps(alloc: Global, commands: Vec<Command>) -> Result<Vec<Step>, N
     Ok(steps)
 }
 
-// The step that begins with this command, where these stand behind it: its jobs and its `end` are taken off them.
+// The step that begins with this command, where these stand behind it: its jobs and its `end` are
+// taken off them.
 fn next_step(
     alloc: Global,
     command: Command,

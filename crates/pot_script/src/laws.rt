@@ -6,19 +6,19 @@ ghost use Rattle.pot_script.specs.declared.command.Command.{Command};
 ghost use Rattle.pot_script.specs.declared.command.Command.TheVariants.{Together};
 ghost use Rattle.pot_script.specs.Batches.{StartsBatch};
 ghost use Rattle.pot_script.specs.Commands.{IsCommand, command_line, command_text};
-ghost use Rattle.pot_script.specs.Scripts.{IsScript, LeavesAt};
+ghost use Rattle.pot_script.specs.Scripts.{IsScript, LeavesAtLine};
 
-/// Bytes are the script of one list of commands at most, they leave the grammar at one line at most,
-/// and never both. For no command's text begins another's.
+/// Bytes are the script of one list of commands at most, they leave the grammar at one line at
+/// most, and never both. For no command's text begins another's.
 pub fn one_reading()
     ensures command { (rack : Rack) (c d : Command) (x y : List ℕ) → IsCommand rack c
         → IsCommand rack d → command_text c ++ x ≡ command_text d ++ y → (c ≡ d) × (x ≡ y) }
     ensures script { (rack : Rack) (bytes : List ℕ) (c d : List Command) → IsScript rack bytes c
         → IsScript rack bytes d → c ≡ d }
-    ensures line { (rack : Rack) (bytes : List ℕ) (m n : ℕ) → LeavesAt rack bytes m
-        → LeavesAt rack bytes n → m ≡ n }
+    ensures line { (rack : Rack) (bytes : List ℕ) (m n : ℕ) → LeavesAtLine rack bytes m
+        → LeavesAtLine rack bytes n → m ≡ n }
     ensures either { (rack : Rack) (bytes : List ℕ) (c : List Command) (n : ℕ)
-        → IsScript rack bytes c → LeavesAt rack bytes n → ⊥ }
+        → IsScript rack bytes c → LeavesAtLine rack bytes n → ⊥ }
 {}
 
 /// No line of the grammar has more than 4,096 bytes without its LF, so this limit of a line refuses

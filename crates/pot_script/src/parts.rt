@@ -63,7 +63,8 @@ pub fn append_number(out: &mut Vec<u8>, number: u64) -> Result<(), AllocError>
     out.extend_from_slice(digits.format(number).as_bytes())
 }
 
-/// Appends a space and the 64 hexadecimal digits of a digest. On refusal `out` still begins as before.
+/// Appends a space and the 64 hexadecimal digits of a digest. On refusal `out` still begins as
+/// before.
 pub fn append_digest(out: &mut Vec<u8>, digest: &Digest) -> Result<(), AllocError>
     ensures ok { OnOk result (out.new.items ≡ out.old.items ++ in_hex digest.now) }
     ensures err { OnErr result (take (length out.old.items) out.new.items ≡ out.old.items) }

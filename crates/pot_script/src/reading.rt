@@ -2,7 +2,7 @@
 
 ghost use Rattle.std.specs.Prelude.{◌≤◌, ℕ, List, length, IfOk, IfErr};
 ghost use Rattle.pot_script.specs.declared.command.Command.{Command};
-ghost use Rattle.pot_script.specs.Scripts.{IsScript, LeavesAt};
+ghost use Rattle.pot_script.specs.Scripts.{IsScript, LeavesAtLine};
 ghost use Rattle.pot_script.specs.Faults.{IfBadLine, ReadsAs, RefusesAt};
 
 use crate::batch::after_command;
@@ -15,16 +15,16 @@ use std::alloc::Global;
 /// The most bytes of a script.
 pub const LONGEST_SCRIPT: usize = 67_108_864;
 
-/// The commands of a script over this rack, in the order of their lines. `BadLine` has the number of the
-/// first line that leaves the grammar, or 0 where the script is too long.
+/// The commands of a script over this rack, in the order of their lines. `BadLine` has the number
+/// of the first line that leaves the grammar, or 0 where the script is too long.
 pub fn read_script(alloc: Global, bytes: &[u8], rack: &Rack) -> Result<Vec<Command>, ScriptFault>
     ensures ok { IfOk result (λ commands. IsScript rack.now bytes.now commands.items) }
-    ensures bad { IfErr result (IfBadLine (LeavesAt rack.now bytes.now)) }
+    ensures bad { IfErr result (IfBadLine (LeavesAtLine rack.now bytes.now)) }
 
     // Unless memory runs out each script is read, and what leaves the grammar is refused there.
     ensures each_script { (script : List Command) → IsScript rack.now bytes.now script
         → ReadsAs result script }
-    ensures each_fault { (line : ℕ) → LeavesAt rack.now bytes.now line → RefusesAt result line }
+    ensures each_fault { (line : ℕ) → LeavesAtLine rack.now bytes.now line → RefusesAt result line }
 {
     if bytes.len() > LONGEST_SCRIPT {
         return Err(ScriptFault::BadLine { number: 0 });
@@ -36,7 +36,7 @@ pub fn read_script(alloc: Global, bytes: &[u8], rack: &Rack) -> Result<Vec<Comma
 fn read_lines(alloc: Global, bytes: &[u8], rack: &Rack) -> Result<Vec<Command>, ScriptFault>
     requires { length bytes.now ≤ 67108864 }
     ensures ok { IfOk result (λ commands. IsScript rack.now bytes.now commands.items) }
-    ensures bad { IfErr result (IfBadLine (LeavesAt rack.now bytes.now)) }
+    ensures bad { IfErr result (IfBadLine (LeavesAtLine rack.now bytes.now)) }
 {
     let mut commands = Vec::new(alloc);
     let mut rest = bytes;

@@ -64,7 +64,8 @@ pub fn find_command<'a>(
     Some((Spelled::Whole(command), rest))
 }
 
-// The command of a `store` line that has these words after the first, with what stands after its file.
+// The command of a `store` line that has these words after the first, with what stands after its
+// file.
 fn find_file<'a>(words: Words<'_>, rest: &'a [u8], rack: &Rack) -> Option<(Spelled<'a>, &'a [u8])>
     ensures { MatchOption result
         ((c : Command) (after : List ℕ) → IsLineOf rack.now kinds.Store words.entry c

@@ -1,6 +1,7 @@
 //! Blocks that carry their digests, so that a block is digested once and four at a time.
 //!
-//! Nothing here changes what a digest is: where two blocks are equal byte for byte, so are their digests.
+//! Nothing here changes what a digest is: where two blocks are equal byte for byte, so are their
+//! digests.
 #![tactic(auto)]
 
 ghost use Rattle.std.specs.Prelude.{◌≡◌, ◌↔◌, [], ◌∷◌, IsTrue, map};

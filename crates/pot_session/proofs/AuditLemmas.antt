@@ -14,7 +14,7 @@ use Rattle.pot_outside.specs.Accounts.{Transition}
 use Rattle.pot_index.specs.declared.record.Record.{Record}
 use Rattle.pot_audit.specs.declared.spot.Spot.{Spot}
 use Rattle.pot_audit.specs.declared.veil.Veil.{Veil}
-use Rattle.pot_audit.specs.Exposure.{AreSpots, IsBefore}
+use Rattle.pot_audit.specs.Exposure.{AreSpots, IsSpotBefore}
 use Rattle.pot_audit.specs.Veils.{AreVeils}
 use Rattle.pot_words.specs.declared.audit.Audit.{Audit}
 use Rattle.pot_words.specs.declared.spot.Spot as word
@@ -32,21 +32,21 @@ use Rattle.pot_session.specs.Audits.{AreAudited, Audited, Audits, IsAudit, Outsi
 
 -- THE COLUMNS
 
-before : (a b : word.Spot) → IsSpot a → IsSpot b → spot_rank a < spot_rank b → IsBefore (spot_of a) (spot_of b)
+before : (a b : word.Spot) → IsSpot a → IsSpot b → spot_rank a < spot_rank b → IsSpotBefore (spot_of a) (spot_of b)
 before a b ia ib lt = elim (cases_lt a.group b.group) [
   | inl less ↦ inl less
   | inr not ↦ (let same : a.group ≡ b.group = omega (arith, not, lt, ia.1, ib.1) in inr (same, omega (arith, lt, same)))
 ]
 
-all_before : (a : word.Spot) (least : ℕ) (seen : List word.Spot) → IsSpot a → spot_rank a < least → AscendFrom IsSpot spot_rank least seen → All (IsBefore (spot_of a)) (map spot_of seen)
+all_before : (a : word.Spot) (least : ℕ) (seen : List word.Spot) → IsSpot a → spot_rank a < least → AscendFrom IsSpot spot_rank least seen → All (IsSpotBefore (spot_of a)) (map spot_of seen)
 all_before a least [] ia lt h = search rules
 all_before a least (b ∷ seen) ia lt h =
-    All-cons (IsBefore (spot_of a)) (spot_of b) (map spot_of seen) (before a b ia h.0 (omega (arith, lt, h.1))) (all_before a (spot_rank b + 1) seen ia (omega (arith, lt, h.1)) h.2)
+    All-cons (IsSpotBefore (spot_of a)) (spot_of b) (map spot_of seen) (before a b ia h.0 (omega (arith, lt, h.1))) (all_before a (spot_rank b + 1) seen ia (omega (arith, lt, h.1)) h.2)
 
-ascend : (least : ℕ) (seen : List word.Spot) → AscendFrom IsSpot spot_rank least seen → AllPairs IsBefore (map spot_of seen)
+ascend : (least : ℕ) (seen : List word.Spot) → AscendFrom IsSpot spot_rank least seen → AllPairs IsSpotBefore (map spot_of seen)
 ascend least [] h = λ i j d lt l. absurd (omega (arith, l))
 ascend least (a ∷ seen) h =
-    AllPairs-cons IsBefore (spot_of a) (map spot_of seen) (all_before a (spot_rank a + 1) seen h.0 (omega arith) h.2) (ascend (spot_rank a + 1) seen h.2)
+    AllPairs-cons IsSpotBefore (spot_of a) (map spot_of seen) (all_before a (spot_rank a + 1) seen h.0 (omega arith) h.2) (ascend (spot_rank a + 1) seen h.2)
 
 left_true : (a b : Bool) → (a && b) ≡ true → a ≡ true
 left_true true b e = refl

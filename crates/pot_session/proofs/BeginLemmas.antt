@@ -6,7 +6,7 @@ use Rattle.std.proofs.lemmas.List.Elements.{All-nil, All-replicate}
 use Rattle.pot_machine.specs.declared.entry.Entry.{Entry}
 use Rattle.pot_image.specs.declared.image.Image.{Image}
 use Rattle.pot_image.specs.Images.{Contents, contents}
-use Rattle.pot_image.specs.Rules.{FitsEntry, FitsIndexEntry, FitsTogether, IsImage, IsLog, IsWhole}
+use Rattle.pot_image.specs.Rules.{FitsEntry, FitsIndexEntry, FitsTogether, IsImage, IsLog, IsImageWhole}
 use Rattle.pot_image.specs.Spelling.{IsCountable}
 use Rattle.pot_session.specs.Desks.{begun}
 use Rattle.pot_session.proofs.Countable.{countable}
@@ -15,7 +15,7 @@ begun_fits : (v w : Contents) → w ≡ begun v → FitsTogether v → FitsToget
 begun_fits v w e f = subst FitsTogether (sym e) (record { rack = f.rack; tables = f.tables; records = f.records; logs = length-replicate v.rack.groups [] })
 
 -- it keeps the rules of images where it was written: its logs are empty
-pub begun_image : (v w : Contents) → w ≡ begun v → FitsTogether v → IsWhole w → IsImage w
+pub begun_image : (v w : Contents) → w ≡ begun v → FitsTogether v → IsImageWhole w → IsImage w
 begun_image v w e f whole = record {
   session = whole.values.session;
   together = begun_fits v w e f;

@@ -1,14 +1,15 @@
 -- The image of a close.
 use Rattle.std.proofs.Common.{◌≡◌, ◌⊎◌, ◌<◌, ◌≤◌, ◌^◌, ◌+◌, ◌-◌, ◌++◌, inl, inr, ℕ, List, [], ◌∷◌, length, map, refl, sym, ap, subst, ◌∙◌, arith}
 use Rattle.std.proofs.lemmas.List.Elements.{All-cons, All-head, All-nil, All-tail}
-use Rattle.std.specs.Prelude.{All, Option, Some, Result, Ok, Err, IfErr, IsErr, IsErrOf, IsTrue, flat_map}
+use Rattle.std.specs.Prelude.{All, Some, Result, Ok, Err, IfErr, IsErr, IsErrOf, IsTrue, flat_map}
 use Rattle.std.proofs.lemmas.Bool.{cases_lt}
 use Rattle.byteorder.specs.Endian.{big_bytes}
 use Rattle.pot_bytes.specs.Digests.{digest_bytes}
 use Rattle.pot_bytes.specs.declared.rack.Rack.{Rack}
-use Rattle.pot_outside.specs.Accounts.{Account, Content, Transition, held_in, transition_by, since}
+use Rattle.pot_outside.specs.Accounts.{Account, Content, Transition, transition_by, since}
 use Rattle.pot_outside.specs.Archives.{Meaning, IsMeant}
 use Rattle.pot_outside.specs.Counts.{Caused, Rose}
+use Rattle.pot_outside.specs.Desks.{HadItsImage, Images, MayCome, image_met}
 use Rattle.pot_outside.specs.Rooms.{RoomState}
 use Rattle.pot_outside.specs.declared.archive.Shelf.{Shelf}
 use Rattle.pot_outside.specs.declared.faults.Failed.{Failed}
@@ -17,11 +18,11 @@ use Rattle.pot_machine.specs.Table.{Table}
 use Rattle.pot_index.specs.Records.{record_bytes}
 use Rattle.pot_shelves.specs.Shelves.{Shelves}
 use Rattle.pot_image.specs.Images.{Contents, magic}
-use Rattle.pot_image.specs.Rules.{HaveDigests, IsWhole}
+use Rattle.pot_image.specs.Rules.{HaveDigests, IsImageWhole}
 use Rattle.pot_image.specs.Spelling.{table_bytes, head_bytes, counted_bytes, entry_bytes, index_entry_bytes, field_bytes, text_bytes, image_bytes}
 use Rattle.pot_session.specs.declared.ending.stop.Stop.{Stop}
 use Rattle.pot_session.specs.declared.ending.stop.Stop.TheVariants as stop
-use Rattle.pot_session.specs.Desks.{IfWritten, Keeps, IsKeepStop}
+use Rattle.pot_session.specs.Desks.{Came, IfWritten, DeskKeeps, IsKeepStop}
 use Rattle.pot_rows.specs.Rows.{view_at}
 use Rattle.pot_rows.proofs.RowLemmas.{at_past}
 use Rattle.pot_replies.specs.Sessions.{ByNobody}
@@ -31,12 +32,13 @@ use Rattle.pot_shared.specs.Catalogs.{IndexPass}
 use Rattle.pot_shared.specs.Blinded.{HaveBlinds}
 use Rattle.pot_shared.specs.Works.{Known, blinds_by, section_of}
 use Rattle.pot_shared.proofs.LeavingWords.{opened_as}
-use Rattle.pot_session.specs.Giving.{AnswersFor, GivesBack}
+use Rattle.pot_session.specs.Giving.{AnswersFor, GivesArchivesBack}
 use Rattle.pot_shared.specs.Groups.{AreFirstPasses, MarksRose, MarksRoseOften, records_read}
 use Rattle.pot_shared.specs.Hands.{times}
 use Rattle.pot_shared.specs.Coming.{marks_of}
 use Rattle.pot_shared.specs.Leaving.{still, AreOpened, RoseInHand, RoseOftenInHand, Shows, IsInHand, LeaveGroups, LeavesRecords, LeavesLogs}
-use Rattle.pot_session.specs.Opened.{IsBegun}
+use Rattle.pot_session.specs.Opened.{IsSessionBegun}
+use Rattle.pot_session.proofs.PastImages.{came_keeps, came_none, came_once}
 use Rattle.pot_session.specs.Serving.{RoseInRoom, RoseOftenInRoom, IsInRoom, Leaves, IsCloseStop, Closes, close_answer, first_failure}
 
 -- RELAYS ARE NOT WRITTEN
@@ -64,7 +66,7 @@ still_digests : (ts : List Table) → All HaveDigests ts → All HaveDigests (ma
 still_digests [] all = All-nil HaveDigests
 still_digests (t ∷ ts) all = All-cons HaveDigests (still t) (map still ts) (All-head HaveDigests t ts all) (still_digests ts (All-tail HaveDigests t ts all))
 
-still_whole : (v : Contents) → IsWhole v → IsWhole (record v { tables = map still v.tables })
+still_whole : (v : Contents) → IsImageWhole v → IsImageWhole (record v { tables = map still v.tables })
 still_whole v w = record {
   values = record {
     session = w.values.session;
@@ -96,7 +98,7 @@ if_written (Err stop.TooWide) f p = f p
 -- THE ROOM
 
 -- archives that were in the hand are in the room, where it took them back
-in_room : {A : Type 0} (archives : Account A Meaning) (hand : List (Shelf A)) (old new : RoomState) (given : Result (Unit {0}) Failed) (b : GivesBack archives hand old new given)
+in_room : {A : Type 0} (archives : Account A Meaning) (hand : List (Shelf A)) (old new : RoomState) (given : Result (Unit {0}) Failed) (b : GivesArchivesBack archives hand old new given)
     → (s : Shelves) (n : ℕ) → IsInHand archives.meaning hand s n → IsInRoom (IsTrue archives.tells) new.means b.missing s n
 in_room archives hand old new given b s n (x, has, e, shows) t back =
     let is : IsMeant (new.means x.number) (archives.meaning x.archive) = b.back t x has (subst (λ k. times k b.missing ≡ 0) (sym e) back) in
@@ -110,7 +112,7 @@ in_room archives hand old new given b s n (x, has, e, shows) t back =
 
 -- a count that rose at an archive in the hand rose in the room, where it took that archive back
 rose_in_room : {A : Type 0} (archives : Account A Meaning) (hand : List (Shelf A)) (meant : ℕ → Meaning) (old new : RoomState) (given : Result (Unit {0}) Failed)
-    (b : GivesBack archives hand old new given) → IsTrue archives.tells → (n : ℕ) → RoseInHand archives.meaning hand meant n → RoseInRoom meant new.means b.missing n
+    (b : GivesArchivesBack archives hand old new given) → IsTrue archives.tells → (n : ℕ) → RoseInHand archives.meaning hand meant n → RoseInRoom meant new.means b.missing n
 rose_in_room archives hand meant old new given b t n (x, has, e, rose) back =
     let is : IsMeant (new.means x.number) (archives.meaning x.archive) = b.back t x has (subst (λ k. times k b.missing ≡ 0) (sym e) back) in
     subst (λ k. MarksRose (marks_of (meant n)) (marks_of (new.means k))) e (moved is rose)
@@ -121,7 +123,7 @@ rose_in_room archives hand meant old new given b t n (x, has, e, rose) back =
 
 -- and as often as it did
 often_in_room : {A : Type 0} (archives : Account A Meaning) (hand : List (Shelf A)) (meant : ℕ → Meaning) (old new : RoomState) (given : Result (Unit {0}) Failed)
-    (b : GivesBack archives hand old new given) → IsTrue archives.tells → (n k : ℕ) → RoseOftenInHand archives.meaning hand meant n k → RoseOftenInRoom meant new.means b.missing n k
+    (b : GivesArchivesBack archives hand old new given) → IsTrue archives.tells → (n k : ℕ) → RoseOftenInHand archives.meaning hand meant n k → RoseOftenInRoom meant new.means b.missing n k
 often_in_room archives hand meant old new given b t n k (x, has, e, rose) back =
     let is : IsMeant (new.means x.number) (archives.meaning x.archive) = b.back t x has (subst (λ j. times j b.missing ≡ 0) (sym e) back) in
     subst (λ j. MarksRoseOften k (marks_of (meant n)) (marks_of (new.means j))) e (moved is rose)
@@ -151,7 +153,7 @@ opened_by old first g = elim (cases_lt g (length old.groups.names)) [
     of_none (x ∷ xs) y e q = absurd (cc q)
 
 -- what the image of a close is, from its parts
-leaves_of : (read : List Table) (old new : Known) (room : Transition RoomState) (missing : List ℕ) (first last : Contents) → AreFirstPasses old.groups old.index → IsBegun first last.session last.rack read (records_read new.index)
+leaves_of : (read : List Table) (old new : Known) (room : Transition RoomState) (missing : List ℕ) (first last : Contents) → AreFirstPasses old.groups old.index → IsSessionBegun first last.session last.rack read (records_read new.index)
     → LeaveGroups (IsTrue room.tells) room.before.means (IsInRoom (IsTrue room.tells) room.after.means missing) first.tables last.group_logs (map still last.tables) → LeavesLogs old new last.rack last.group_logs last.index_log last.records
     → (IsTrue room.tells → AreOpened room.before.means (RoseInRoom room.before.means room.after.means missing) (RoseOftenInRoom room.before.means room.after.means missing) first.tables (section_of old new))
     → Leaves room missing first (record last { tables = map still last.tables }) (section_of old new)
@@ -215,16 +217,17 @@ same_views told meant Has Is read logs written is l = record {
 
 -- A close leaves the image of what its vault left. `meant` is what the room meant when the session
 -- was opened, `worked` what it meant before the close, and `means` what it means after it.
-pub closes : {A : Type 0} (archives : Account A Meaning) (hand : List (Shelf A)) (meant worked means : RoomState) (read : List Table) (old new : Known) (rack : Rack) (desk : Transition (Content (Option (List ℕ)))) (first last : Contents)
-    (given : Result (Unit {0}) Failed) (kept closed : Result (Unit {0}) Stop) → (IsTrue desk.tells → Keeps (held_in desk) (image_bytes last) kept) → IfErr kept IsKeepStop → Caused desk.before.faults desk.after.faults (kept ≡ Err stop.DeskFault)
-    → GivesBack archives hand worked means given → AreFirstPasses old.groups old.index
-    → IsBegun first last.session last.rack read (records_read new.index) → last.rack ≡ rack
+pub closes : {A : Type 0} (archives : Account A Meaning) (hand : List (Shelf A)) (meant worked means : RoomState) (read : List Table) (old new : Known) (rack : Rack) (desk : Transition (Content Images)) (first last : Contents)
+    (given : Result (Unit {0}) Failed) (kept closed : Result (Unit {0}) Stop) → (IsTrue desk.tells → DeskKeeps (image_met desk) (image_bytes last) kept)
+    → (IsTrue desk.tells → MayCome desk.before.held.past (image_bytes last) desk.after.held.past) → (IsTrue desk.tells → HadItsImage desk.before.held → HadItsImage desk.after.held) → IfErr kept IsKeepStop → Caused desk.before.faults desk.after.faults (kept ≡ Err stop.DeskFault)
+    → GivesArchivesBack archives hand worked means given → AreFirstPasses old.groups old.index
+    → IsSessionBegun first last.session last.rack read (records_read new.index) → last.rack ≡ rack
     → (left : LeaveGroups (IsTrue archives.tells) meant.means (IsInHand archives.meaning hand) read last.group_logs (map still last.tables)) × ((job : ℕ) → 0 < job → HaveBlinds left job (blinds_by job old.groups new.groups))
     → LeavesLogs old new rack last.group_logs last.index_log last.records
     → (IsTrue archives.tells → AreOpened meant.means (RoseInHand archives.meaning hand meant.means) (RoseOftenInHand archives.meaning hand meant.means) first.tables (section_of old new))
-    → closed ≡ first_failure given kept → IfWritten kept (IsWhole last) → Closes old new (transition_by archives.tells meant means) worked.failures desk first kept closed
+    → closed ≡ first_failure given kept → IfWritten kept (IsImageWhole last) → Closes old new (transition_by archives.tells meant means) worked.failures desk first kept closed
 unfolding leaves_of
-closes archives hand meant worked means read old new rack desk first last given kept closed k which cause back opened b same groups left found is whole =
+closes archives hand meant worked means read old new rack desk first last given kept closed k comes stays which cause back opened b same groups left found is whole =
     let moved : Left archives meant means old new last back.missing first.tables = subst (Left archives meant means old new last back.missing) (sym b.are_tables) (
       same_views (IsTrue archives.tells) meant.means (IsInHand archives.meaning hand) (IsInRoom (IsTrue archives.tells) means.means back.missing) read last.group_logs (map still last.tables)
           (in_room archives hand worked means given back) groups.0,
@@ -243,7 +246,14 @@ closes archives hand meant worked means read old new rack desk first last given 
       blinds = moved.1;
       whole = if_written kept (still_whole last) whole;
       keeps = λ held. record {
-        holds = λ t. subst (λ b. Keeps (since (held_in desk) (Some (image_bytes first))) b kept) (sym (same_image last)) (subst (λ h. Keeps (since (held_in desk) h) (image_bytes last) kept) (held t) (k t));
+        holds = λ t. subst (λ b. DeskKeeps (since (image_met desk) (Some (image_bytes first))) b kept) (sym (same_image last)) (subst (λ h. DeskKeeps (since (image_met desk) h) (image_bytes last) kept) (held t).0 (k t));
+        past = λ t. (
+          desk.before.held.past,
+          came_none desk.before.held.past (image_bytes first),
+          subst (λ b. Came desk.before.held.past b desk.after.held.past) (sym (same_image last)) (came_once desk.before.held.past (image_bytes last) desk.after.held.past (comes t)),
+        );
+        began = λ t. came_keeps desk.before.held.past (image_bytes last) desk.after.held.past (image_bytes first) (came_once desk.before.held.past (image_bytes last) desk.after.held.past (comes t)) ((held t).1 (image_bytes first) (held t).0);
+        had = λ t. stays t (held t).1;
         which = which;
         cause = cause;
       };

@@ -3,7 +3,7 @@ use Rattle.std.specs.Prelude.{IsErrOf, Err}
 use Rattle.std.proofs.Common.{◌≡◌, ap, ◌≤◌, ◌⊎◌, inl, inr, ℕ, arith}
 use Rattle.pot_outside.specs.Counts.{Rose, Caused}
 use Rattle.pot_doubles.proofs.CallLemmas.{rose_later}
-use Rattle.pot_commands.specs.Failures.{Fails}
+use Rattle.pot_commands.specs.Failures.{FailsOwn}
 
 pub rose_before : (a b c : ℕ) → b ≤ c → Rose a b → Rose a c
 rose_before a b c le (inl r) = inl (omega arith)
@@ -36,5 +36,5 @@ pub err_again : {T U E : Type 0} (x y : E) → IsErrOf {T = T} (Err x) y → IsE
 err_again x y e = ap (λ z. Err z) (same_error x y e)
 
 -- a failure of the room's own has its cause
-pub caused_fails : {P : Type 0} (a b : ℕ) → Fails a b P → Caused a b P
+pub caused_fails : {P : Type 0} (a b : ℕ) → FailsOwn a b P → Caused a b P
 caused_fails a b f = record { later = f.later; rose = f.rose }

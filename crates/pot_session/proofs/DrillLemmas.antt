@@ -1,6 +1,6 @@
 -- What is told of two files.
 use Rattle.std.proofs.Common.{◌≡◌, ◌-◌, ℕ, true, false, List, length, refl, subst}
-use Rattle.pot_veil.specs.Drills.{IsReport, IsFault}
+use Rattle.pot_veil.specs.Drills.{IsReport, IsDrillFault}
 use Rattle.pot_veil.specs.declared.drilling.DrillFault.TheVariants as fault
 use Rattle.pot_veil.specs.declared.drilling.DrillReport.{DrillReport}
 use Rattle.pot_words.specs.Limits.{IsWithinLimits}
@@ -22,8 +22,8 @@ module _ (d : Drill) (seed file other : List ℕ) (t : Telling) (seen random now
       (subst (λ (points : List ℕ). IsReport d.geometry file other (d.hidden - 1) points (random_of d.geometry seed (length file)) now r) same
       (subst (λ (bytes : List ℕ). IsReport d.geometry file other (d.hidden - 1) seen bytes now r) drawn is)) text refused
 
-  pub exposed : (number have need : ℕ) → IsFault d.geometry d.hidden seen random now (fault.Exposed number have need)
+  pub exposed : (number have need : ℕ) → IsDrillFault d.geometry d.hidden seen random now (fault.Exposed number have need)
       → t.text.items ≡ exposed_text number have need → t.refused ≡ true → DrillsTo d seed file other t
   exposed number have need is text refused =
       Exposed number have need random
-      (subst (λ (points : List ℕ). IsFault d.geometry d.hidden points random random (fault.Exposed number have need)) same (is.0, is.1, is.2, is.3, refl)) text refused
+      (subst (λ (points : List ℕ). IsDrillFault d.geometry d.hidden points random random (fault.Exposed number have need)) same (is.0, is.1, is.2, is.3, refl)) text refused

@@ -1,5 +1,5 @@
 -- The image of a new archive keeps the rules of images.
-use Rattle.std.proofs.Common.{◌≡◌, ◌≤◌, ◌<◌, ◌+◌, ◌*◌, ◌++◌, ◌≢◌, ⊎_elim, ℕ, zero, suc, true, false, List, [], ◌∷◌, length, map, refl, sym, ap, subst, ◌∙◌, arith, eqb}
+use Rattle.std.proofs.Common.{◌≡◌, ◌≤◌, ◌<◌, ◌+◌, ◌*◌, ◌++◌, ◌≢◌, ⊎_elim, ℕ, zero, suc, true, false, List, [], ◌∷◌, length, map, refl, sym, ap, ◌∙◌, arith, eqb}
 use Rattle.std.specs.Prelude.{All, flat_map}
 use Rattle.std.specs.List.{range_with_len}
 use Rattle.std.specs.List.Sorted.{IsStrictlySortedBy}
@@ -17,13 +17,12 @@ use Rattle.pot_machine.specs.Column.{homes_of}
 use Rattle.pot_machine.specs.Making.{column_home, empty_table}
 use Rattle.pot_machine.specs.Table.{Table, archives_in}
 use Rattle.pot_machine.proofs.Empty.{empty_is_table}
-use Rattle.pot_index.specs.Index.{Ascends}
+use Rattle.pot_index.specs.Index.{NamesAscend}
 use Rattle.pot_index.specs.Records.{record_bytes}
-use Rattle.pot_image.specs.Rules.{FitsEntry, FitsIndexEntry, FitsTable, HasDigest, HaveDigests, IsImage, IsLog}
+use Rattle.pot_image.specs.Rules.{FitsEntry, FitsIndexEntry, FitsTable, HasSlotDigest, HaveDigests, IsImage, IsLog}
 use Rattle.pot_image.specs.Spelling.{column_bytes, counted_bytes, cursor_bytes, entry_bytes, field_bytes, head_bytes, index_entry_bytes, slot_bytes, table_bytes}
 use Rattle.pot_image.proofs.ImageBack.{image_long}
-use Rattle.pot_shared.specs.Groups.{AreLow}
-use Rattle.pot_shared.specs.Hands.{times, AreApart}
+use Rattle.pot_shared.specs.Hands.{times}
 use Rattle.pot_shared.proofs.Times.{one_if}
 use Rattle.pot_session.specs.Making.{empty_contents}
 use Rattle.pot_session.proofs.LeftArchives.{archives_of}
@@ -82,7 +81,7 @@ rows rack a (suc k) =
 
 -- THE IMAGE
 
-none_ascend : Ascends []
+none_ascend : NamesAscend []
 unfolding IsStrictlySortedBy
 none_ascend = tt
 
@@ -147,7 +146,7 @@ fields_few rack is =
 
 all_void : (rack : Rack) (a k : ℕ) → All HaveDigests (map (empty_table rack) (range_with_len a k))
 all_void rack a zero = All-nil HaveDigests
-all_void rack a (suc k) = All-cons HaveDigests (empty_table rack a) (map (empty_table rack) (range_with_len (a + 1) k)) (All-replicate HasDigest (rack.stripes * wide rack) Void tt) (all_void rack (a + 1) k)
+all_void rack a (suc k) = All-cons HaveDigests (empty_table rack a) (map (empty_table rack) (range_with_len (a + 1) k)) (All-replicate HasSlotDigest (rack.stripes * wide rack) Void tt) (all_void rack (a + 1) k)
 
 pub empty_image : (rack : Rack) → IsRack rack → IsImage (empty_contents rack)
 empty_image rack is = record {

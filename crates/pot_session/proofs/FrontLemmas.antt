@@ -8,7 +8,7 @@ use Rattle.std.proofs.lemmas.Bool.{cases_lt}
 use Rattle.std.proofs.lemmas.Slice.Eq.{bytes_eq-Decides}
 use Rattle.byteorder.specs.Endian.{big_bytes}
 use Rattle.pot_chains.specs.Listed.{IsIn}
-use Rattle.pot_object.specs.Objects.{head_at, head_bytes, object_bytes, part_length, IsHead, IsObject}
+use Rattle.pot_object.specs.Objects.{head_at, head_bytes, object_bytes, part_length, IsObjectHead, IsObject}
 use Rattle.pot_object.specs.declared.object.ObjectHead.{ObjectHead}
 use Rattle.pot_object.proofs.ObjectLemmas.{length-head_bytes}
 use Rattle.pot_object.proofs.ReadLemmas.{head_at-head_bytes, head_at-object}
@@ -132,7 +132,7 @@ to_front o other h whole is same =
 first_piece : ObjectHead → ObjectHead
 first_piece h = record h { piece = 0 }
 
-first_head : (h : ObjectHead) → IsHead h → IsHead (first_piece h)
+first_head : (h : ObjectHead) → IsObjectHead h → IsObjectHead (first_piece h)
 unfolding first_piece
 first_head h ok = record { id = ok.id; fits = ok.fits; cut = ok.cut; exists = (let e = ok.exists in omega (arith, e)) }
 

@@ -6,6 +6,7 @@ use Rattle.std.specs.Result.{is_ok}
 use Rattle.pot_bytes.specs.declared.rack.Rack.{Rack}
 use Rattle.pot_outside.specs.Accounts.{Content, Transition, transition_by}
 use Rattle.pot_outside.specs.Archives.{Meaning}
+use Rattle.pot_outside.specs.Desks.{Images}
 use Rattle.pot_outside.specs.Rooms.{RoomState}
 use Rattle.pot_outside.specs.declared.archive.Shelf.{Shelf}
 use Rattle.pot_outside.specs.declared.faults.Failed.{Failed}
@@ -19,12 +20,12 @@ use Rattle.pot_session.specs.declared.ending.status.Status.{Status}
 use Rattle.pot_session.specs.declared.ending.status.Status.TheVariants as status
 use Rattle.pot_session.specs.Generating.{AreSound, Generates, IsGenerated, Told, Starved, answer_of, is_answered}
 use Rattle.pot_session.specs.declared.ending.stop.Stop.{Stop}
-use Rattle.pot_session.specs.Making.{Makes, empty_contents}
+use Rattle.pot_session.specs.Making.{MakesDesk, empty_contents}
 use Rattle.pot_session.specs.Runs.{Holds, seen_by}
 
 -- a session over these objects is one of the number
-pub is_generated : (number : ℕ) (rack : Rack) (seed input rest before bytes : List ℕ) (desk leaves : Content (Option (List ℕ))) (room lends : RoomState) (ended : Status)
-    → rack ≡ rack_of_runs → seed ≡ seed_of number → input ≡ script_text (generated number) → before ≡ [] → desk.held ≡ Some (image_bytes (empty_contents rack))
+pub is_generated : (number : ℕ) (rack : Rack) (seed input rest before bytes : List ℕ) (desk leaves : Content Images) (room lends : RoomState) (ended : Status)
+    → rack ≡ rack_of_runs → seed ≡ seed_of number → input ≡ script_text (generated number) → before ≡ [] → desk.held.now ≡ Some (image_bytes (empty_contents rack))
     → ((n : ℕ) → room.means n ≡ meaning_of None) → AreSound lends.means → room.failures ≡ 0
     → Holds seed false (seen_by (transition_by true input rest) (transition_by true before bytes) (transition_by true desk leaves) (transition_by true room lends)) ended → IsGenerated number bytes ended
 is_generated number rack seed input rest before bytes desk leaves room lends ended same_rack same_seed same_input none is_held empty are_sound none_failed session = record {
@@ -44,7 +45,7 @@ is_generated number rack seed input rest before bytes desk leaves room lends end
 }
 
 -- a new archive was made
-pub image_made : (rack : Rack) (desk : Transition (Option (List ℕ))) (r : Result (Unit {0}) Stop) → is_ok r ≡ true → Makes rack desk r → desk.after ≡ Some (image_bytes (empty_contents rack))
+pub image_made : (rack : Rack) (desk : Transition (Option (List ℕ))) (r : Result (Unit {0}) Stop) → is_ok r ≡ true → MakesDesk rack desk r → desk.after ≡ Some (image_bytes (empty_contents rack))
 image_made rack desk (Ok u) h made = made.1
 image_made rack desk (Err e) h made = absurd (cc h)
 

@@ -15,7 +15,7 @@ use Rattle.pot_shared.proofs.Times.{one_if}
 use Rattle.pot_shelves.specs.Shelves.{numbers_of, shelf_of}
 use Rattle.pot_shared.specs.Hands.{AreMeant, AreMeantButLost, IsMeantButLost, times}
 use Rattle.pot_commands.proofs.TakingLemmas.{meant_by}
-use Rattle.pot_session.specs.Giving.{AnswersFor, FailsAt, GivesBack, IsUnlent, IsUnopened}
+use Rattle.pot_session.specs.Giving.{AnswersFor, FailsToGive, GivesArchivesBack, IsUnlent, IsRoomUnopened}
 use Rattle.pot_shared.proofs.Times.{times_contains}
 use Rattle.pot_shared.proofs.GroupLemmas.{find_shelf}
 use Rattle.pot_shared.proofs.LostLemmas.{lost_none, lost_until}
@@ -45,10 +45,10 @@ answers_more n missing (Ok u) e = absurd (cc e)
 answers_more n missing (Err f) e = omega arith
 
 -- so many are missing, one call on
-failed_same : (before mid now : ℕ) (missing : List ℕ) → FailsAt before mid missing → now ≡ mid → FailsAt before now missing
-failed_same before mid now missing m e = subst (λ k. FailsAt before k missing) (sym e) m
+failed_same : (before mid now : ℕ) (missing : List ℕ) → FailsToGive before mid missing → now ≡ mid → FailsToGive before now missing
+failed_same before mid now missing m e = subst (λ k. FailsToGive before k missing) (sym e) m
 
-failed_more : (before mid now n : ℕ) (missing : List ℕ) → FailsAt before mid missing → mid ≤ now → Rose mid now → FailsAt before now (n ∷ missing)
+failed_more : (before mid now n : ℕ) (missing : List ℕ) → FailsToGive before mid missing → mid ≤ now → Rose mid now → FailsToGive before now (n ∷ missing)
 failed_more before mid now n missing m le rose = record {
   later = (let a = m.later in omega (arith, a, le));
   counted = elim m.counted [
@@ -61,7 +61,7 @@ failed_more before mid now n missing m le rose = record {
   still = λ e. absurd (cc e);
 }
 
-pub failed_none : (n : ℕ) → FailsAt n n []
+pub failed_none : (n : ℕ) → FailsToGive n n []
 failed_none n = record { later = omega arith; counted = inl (omega arith); still = λ e. refl }
 
 -- ONE BY ONE
@@ -71,7 +71,7 @@ module _ {A : Type 0} (archives : Account A Meaning) where
   -- the room meant before any was, and `room` what it means now.
   pub record GivenSofar (all hand : List (Shelf A)) (first room : RoomState) (answer : Result (Unit {0}) Failed) : Type 0 where
     pub missing : List ℕ
-    pub failed_at : FailsAt first.failures room.failures missing
+    pub failed_at : FailsToGive first.failures room.failures missing
     pub answers : AnswersFor missing answer
     pub each : (s : Shelf A) → Contains all s → HeldOrGiven archives.meaning (IsTrue archives.tells × (times s.number missing ≡ 0)) room hand s
 
@@ -104,7 +104,7 @@ module _ {A : Type 0} (archives : Account A Meaning) where
     }
 
   -- all of them were
-  pub all_given : (all hand : List (Shelf A)) (first room : RoomState) (answer : Result (Unit {0}) Failed) → GivenSofar all hand first room answer → hand ≡ [] → GivesBack archives all first room answer
+  pub all_given : (all hand : List (Shelf A)) (first room : RoomState) (answer : Result (Unit {0}) Failed) → GivenSofar all hand first room answer → hand ≡ [] → GivesArchivesBack archives all first room answer
   all_given all hand first room answer g none = record {
     missing = g.missing;
     failed_at = g.failed_at;
@@ -117,7 +117,7 @@ module _ {A : Type 0} (archives : Account A Meaning) where
 
 -- where the giving back failed, the room did
 pub missed : {A : Type 0} {archives : Account A Meaning} {hand : List (Shelf A)} {old new : RoomState} (answer : Result (Unit {0}) Failed)
-    → GivesBack archives hand old new answer → IsErr answer → Rose old.failures new.failures
+    → GivesArchivesBack archives hand old new answer → IsErr answer → Rose old.failures new.failures
 missed (Ok u) g e = absurd (cc e)
 missed (Err f) g e = (let some : 0 < length g.missing = g.answers in elim g.failed_at.counted [ inl a ↦ inl (omega (arith, a, some)) | inr top ↦ inr top ])
 
@@ -127,7 +127,7 @@ unchanged m = lost_none m m (record { blocks = λ k. refl; past = refl; sums = r
 
 -- the room failed itself, and the archives that it had given were given back
 pub is_unlent : {A : Type 0} (archives : Account A Meaning) (hand : List (Shelf A)) (first worked last : RoomState) (answer : Result (Unit {0}) Failed) → Rose first.failures worked.failures
-    → GivesBack archives hand worked last answer → (IsTrue archives.tells → AreMeant archives.meaning first.means hand) → ((n : ℕ) → times n (numbers_of hand) ≡ 0 → last.means n ≡ first.means n)
+    → GivesArchivesBack archives hand worked last answer → (IsTrue archives.tells → AreMeant archives.meaning first.means hand) → ((n : ℕ) → times n (numbers_of hand) ≡ 0 → last.means n ≡ first.means n)
     → IsUnlent (transition_by archives.tells first last)
 is_unlent {A} archives hand first worked last answer rose g are stay = record {
   worked = worked.failures;
@@ -150,11 +150,11 @@ is_unlent {A} archives hand first worked last answer rose g are stay = record {
 
 -- memory ran out, and the archives that the room had given were given back
 pub is_unopened : {A : Type 0} (archives : Account A Meaning) (hand : List (Shelf A)) (first worked last : RoomState) (answer : Result (Unit {0}) Failed) → worked.failures ≡ first.failures
-    → GivesBack archives hand worked last answer → (IsTrue archives.tells → AreMeantButLost archives.meaning first.means hand) → ((n : ℕ) → times n (numbers_of hand) ≡ 0 → last.means n ≡ first.means n)
-    → IsUnopened (transition_by archives.tells first last)
+    → GivesArchivesBack archives hand worked last answer → (IsTrue archives.tells → AreMeantButLost archives.meaning first.means hand) → ((n : ℕ) → times n (numbers_of hand) ≡ 0 → last.means n ≡ first.means n)
+    → IsRoomUnopened (transition_by archives.tells first last)
 is_unopened {A} archives hand first worked last answer same g are stay = record {
   missing = g.missing;
-  failed_at = subst (λ k. FailsAt k last.failures g.missing) same g.failed_at;
+  failed_at = subst (λ k. FailsToGive k last.failures g.missing) same g.failed_at;
   others = λ t n none. elim (cases_lt 0 (times n (numbers_of hand))) [
     | inl some ↦ there t n none (find_shelf hand n (times_contains (numbers_of hand) n some))
     | inr le ↦ subst (λ m. IsMeantButLost (first.means n) m) (sym (stay n (omega (arith, le)))) (unchanged (first.means n))

@@ -1,10 +1,10 @@
 -- The archives of the tables that a session leaves: each is one that it had, and all are apart.
-use Rattle.std.proofs.Common.{◌≡◌, ◌≢◌, ◌≤◌, ◌<◌, ◌+◌, ◌++◌, ⊎_elim, inl, inr, ◌⊎◌, ℕ, zero, suc, true, false, List, [], ◌∷◌, length, get_or, refl, sym, ap, subst, ◌∙◌, arith, eqb, nat_eq}
+use Rattle.std.proofs.Common.{◌≡◌, ◌≢◌, ◌≤◌, ◌<◌, ◌+◌, ◌++◌, ⊎_elim, inl, inr, ◌⊎◌, ℕ, zero, suc, true, false, List, [], ◌∷◌, length, refl, sym, ap, subst, ◌∙◌, arith, eqb, nat_eq}
 use Rattle.std.specs.Prelude.{All, Contains, IfSome, IsTrue, Option, Some, None, slice_get, flat_map}
 use Rattle.std.specs.List.{AllByRecursion, IsDistinct}
 use Rattle.std.proofs.lemmas.Bool.{ne_eqb}
 use Rattle.std.proofs.lemmas.Bool.Decides.{eqb_tells}
-use Rattle.std.proofs.lemmas.List.Elements.{All-nil, All-cons, Contains-append_left, Contains-append_right}
+use Rattle.std.proofs.lemmas.List.Elements.{All-nil, All-cons}
 use Rattle.std.proofs.lemmas.Option.{slice_get_within}
 use Rattle.pot_machine.specs.declared.column.Column.{Column}
 use Rattle.pot_machine.specs.declared.column.Moving.{Moving}
@@ -19,7 +19,7 @@ use Rattle.pot_outside.specs.Archives.{Meaning}
 use Rattle.pot_shelves.specs.Shelves.{Shelves}
 use Rattle.pot_shared.specs.Groups.{AreLow}
 use Rattle.pot_shared.specs.Hands.{times, AreApart}
-use Rattle.pot_shared.specs.Leaving.{LeavesGroup, LeaveGroups, still}
+use Rattle.pot_shared.specs.Leaving.{LeavesGroup, LeaveGroups}
 use Rattle.pot_shared.proofs.Lists.{at_same}
 use Rattle.pot_shared.proofs.Times.{contains_times, one_if, times-append, times_contains, times_here, times_there}
 use Rattle.pot_session.specs.Losses.{all_had}

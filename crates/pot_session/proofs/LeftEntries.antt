@@ -1,6 +1,6 @@
 -- What a group leaves may stand in an image: its table without relays, and the entries of its log.
-use Rattle.std.proofs.Common.{◌≡◌, ◌≤◌, ◌<◌, ◌+◌, ◌++◌, ◌==◌, ◌&&◌, ℕ, zero, suc, Bool, true, false, not, List, [], ◌∷◌, length, refl, sym, ap, subst, ◌∙◌, arith, cond, nat_le}
-use Rattle.std.specs.Prelude.{All, Contains, Option, Some, None, is_some, IsTrue}
+use Rattle.std.proofs.Common.{◌≡◌, ◌≤◌, ◌<◌, ◌+◌, ◌++◌, ◌==◌, ◌&&◌, ℕ, Bool, true, false, not, List, [], ◌∷◌, refl, subst, ◌∙◌, arith, cond, nat_le}
+use Rattle.std.specs.Prelude.{All, Contains, Some, None, is_some}
 use Rattle.std.proofs.lemmas.List.Elements.{All-cons, All-head, All-nil, All-tail, Contains-append_left, Contains-append_right}
 use Rattle.pot_bytes.specs.declared.rack.Rack.{Rack}
 use Rattle.pot_machine.specs.declared.entry.Entry.{Entry}
@@ -14,7 +14,7 @@ use Rattle.pot_machine.proofs.LeftAlone.{put_column, sizes_stay}
 use Rattle.pot_machine.proofs.Searches.{least_some}
 use Rattle.pot_machine.proofs.Sizes.{gave_up_range}
 use Rattle.pot_group.specs.Arrivals.{arrival, arrivals}
-use Rattle.pot_image.specs.Rules.{FitsEntry, FitsTable, IsAt, IsWholeEntry}
+use Rattle.pot_image.specs.Rules.{FitsEntry, FitsTable, IsSpotOf, IsWholeEntry}
 use Rattle.pot_shared.specs.Leaving.{still}
 
 -- THE TABLE
@@ -64,7 +64,7 @@ module _ (rack : Rack) (t : Table) (is : IsTable t) (columns : t.data_columns �
   wide : width t ≡ rack.columns + rack.parity
   wide = omega (arith, columns, parity)
 
-  at : (s c : ℕ) → s < t.stripes → c < width t → IsAt rack s c
+  at : (s c : ℕ) → s < t.stripes → c < width t → IsSpotOf rack s c
   at s c ls lc = (subst (λ n. s < n) stripes ls, subst (λ n. c < n) wide lc)
 
   beside : (c : ℕ) → c < width t → c < rack.columns + rack.parity

@@ -1,5 +1,5 @@
 -- The image that a session leaves keeps the rules of images.
-use Rattle.std.proofs.Common.{◌≡◌, ◌≤◌, ◌<◌, ◌+◌, ◌++◌, ℕ, List, length, refl, sym, ap, subst, ◌∙◌, arith}
+use Rattle.std.proofs.Common.{◌≡◌, ◌≤◌, ◌<◌, ◌+◌, ◌++◌, ℕ, List, length, sym, ap, subst, ◌∙◌, arith}
 use Rattle.std.specs.Prelude.{All, Contains, IsTrue, Some, slice_get, flat_map}
 use Rattle.std.proofs.lemmas.List.Elements.{Contains-append_right}
 use Rattle.std.proofs.lemmas.Option.{slice_get_within}
@@ -10,10 +10,10 @@ use Rattle.pot_outside.specs.Accounts.{Transition}
 use Rattle.pot_outside.specs.Rooms.{RoomState}
 use Rattle.pot_machine.specs.declared.entry.Entry.{Entry}
 use Rattle.pot_machine.specs.Machine.{Replays}
-use Rattle.pot_machine.specs.Table.{Table, archives_in, width}
+use Rattle.pot_machine.specs.Table.{Table, archives_in}
 use Rattle.pot_group.specs.Arrivals.{arrivals}
 use Rattle.pot_image.specs.Images.{Contents}
-use Rattle.pot_image.specs.Rules.{AreRecords, AreTables, FitsEntry, FitsTable, FitsTogether, IsImage, IsLog, IsWhole, IsWholeEntry}
+use Rattle.pot_image.specs.Rules.{AreRecords, AreTables, FitsEntry, FitsTable, FitsTogether, IsImage, IsLog, IsImageWhole, IsWholeEntry}
 use Rattle.pot_replies.specs.Sections.{Section}
 use Rattle.pot_shared.specs.Coming.{came_in}
 use Rattle.pot_shared.specs.Going.{AllOnlyWriters}
@@ -46,7 +46,7 @@ share_none room missing first last w leaves fits apart = record {
 }
 
 module _ (room : Transition RoomState) (missing : List ℕ) (first last : Contents) (w : Section) (leaves : Leaves room missing first last w) (fits : FitsTogether first)
-    (apart : AreApart (all_had first.tables last.group_logs)) (low : AreLow (all_had first.tables last.group_logs)) (whole : IsWhole last) where
+    (apart : AreApart (all_had first.tables last.group_logs)) (low : AreLow (all_had first.tables last.group_logs)) (whole : IsImageWhole last) where
   of : (g : ℕ) (t : Table) → slice_get first.tables g ≡ Some t → FitsTable first.rack t
   of g t q = all_at_place (FitsTable first.rack) first.tables g t fits.tables.fits q
 

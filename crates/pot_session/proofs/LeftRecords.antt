@@ -1,7 +1,7 @@
 -- The records that a session leaves: each place of their splits has a block in the tables that it
 -- leaves.
-use Rattle.std.proofs.Common.{◌≡◌, ◌≤◌, ◌<◌, ◌+◌, ◌++◌, ◌⊎◌, inl, inr, ⊎_elim, ℕ, zero, suc, false, true, List, [], ◌∷◌, length, get_or, refl, sym, ap, subst, ◌∙◌, arith}
-use Rattle.std.specs.Prelude.{All, Contains, Option, Some, None, slice_get, slice_index_or}
+use Rattle.std.proofs.Common.{◌≡◌, ◌≤◌, ◌<◌, ◌+◌, ◌++◌, ◌⊎◌, inl, inr, ⊎_elim, ℕ, false, List, [], ◌∷◌, length, get_or, refl, sym, ap, subst, ◌∙◌, arith}
+use Rattle.std.specs.Prelude.{All, Contains, Option, Some, None, slice_get}
 use Rattle.std.proofs.lemmas.List.{length-map}
 use Rattle.std.proofs.lemmas.List.Elements.{All-append, All-contains, All-cons, All-nil, Contains-get_or}
 use Rattle.std.proofs.lemmas.Option.{slice_get_within}
@@ -17,16 +17,15 @@ use Rattle.pot_machine.specs.Logs.{Fills, IsKeptPut}
 use Rattle.pot_machine.specs.Machine as machine
 use Rattle.pot_machine.specs.Slot.{is_void}
 use Rattle.pot_machine.specs.Table.{Table, slot_at}
-use Rattle.pot_machine.specs.Rules.{IsTable}
 use Rattle.pot_machine.proofs.Filled.{filled_stays, not_void, put_digest}
 use Rattle.pot_index.specs.declared.entry.IndexEntry.{IndexEntry}
 use Rattle.pot_index.specs.declared.entry.IndexEntry.TheVariants.{Reserve, Taken, Publish, Abandon, Find, Listed, Renew, Often}
 use Rattle.pot_index.specs.declared.entry.Logged.{Logged}
 use Rattle.pot_index.specs.declared.record.Record.{Record}
 use Rattle.pot_index.specs.declared.record.Split.{Split}
-use Rattle.pot_index.specs.Entries.{bringing, entries}
+use Rattle.pot_index.specs.Entries.{bringing}
 use Rattle.pot_index.specs.Fits.{FitsRack, FitsSplit}
-use Rattle.pot_index.specs.Index.{AreNames, AreRead, Ascends, Legal, LegalEntry, Names, Replays, after, after_entry, names_read}
+use Rattle.pot_index.specs.Index.{AreNames, NamesAscend, LegalEntry, Names, ReplaysIndex, after, after_entry, names_read}
 use Rattle.pot_index.specs.Records.{current_of, splits_of}
 use Rattle.pot_index.proofs.IndexLemmas.{started_is}
 use Rattle.pot_index.proofs.NamesKept.{replay_keeps}
@@ -35,7 +34,7 @@ use Rattle.pot_index.proofs.RecordLemmas.{inserted_from, replaced_from}
 use Rattle.pot_shelves.specs.Shelves.{Shelves}
 use Rattle.pot_image.specs.Rules.{AreRecords, FitsTable, IsFilled, IsRecordOver, IsWholeRecord}
 use Rattle.pot_shared.specs.Catalogs.{AreFirstSplits}
-use Rattle.pot_shared.specs.Leaving.{ArePut, IsPutAt, LeaveGroups, LeavesRecords}
+use Rattle.pot_shared.specs.Leaving.{AreRecordsPut, IsPutAt, LeaveGroups, LeavesRecords}
 use Rattle.pot_shared.proofs.Lists.{all_at_place, at_same}
 
 -- LISTS
@@ -135,7 +134,7 @@ module _ (told : Type 0) (meant : ℕ → Meaning) (Has : Shelves → ℕ → Ty
   abbrev AllPut : List Logged → Type 0
   AllPut log = (e : IndexEntry) (r : Record) → Contains log (bringing e r) → WasPut r
 
-  story_filled : (n : Names) (log : List Logged) (m : Names) → AllPut log → AreFirstSplits log → Replays rack n log m → AllFilled n → AllFilled m
+  story_filled : (n : Names) (log : List Logged) (m : Names) → AllPut log → AreFirstSplits log → ReplaysIndex rack n log m → AllFilled n → AllFilled m
   story_filled n [] m put once same all = subst AllFilled (sym same) all
   story_filled n (x ∷ log) m put once (legal, rest) all =
       story_filled (after n x) log m (λ e r has. put e r (contains_later x (bringing e r) log has)) (λ job name mark r has. once job name mark r (contains_later x (bringing (Publish job name mark) r) log has)) rest
@@ -148,12 +147,12 @@ module _ (told : Type 0) (meant : ℕ → Meaning) (Has : Shelves → ℕ → Ty
 
   -- THE RECORDS
 
-  pub records_left : (rs : List Record) (story : List Logged) (log : List IndexEntry) (left : List Record) → IsRack rack → AreRecords rack ts rs → LeavesRecords rack rs story log left → ArePut logs story → length log ≤ log_bound
+  pub records_left : (rs : List Record) (story : List Logged) (log : List IndexEntry) (left : List Record) → IsRack rack → AreRecords rack ts rs → LeavesRecords rack rs story log left → AreRecordsPut logs story → length log ≤ log_bound
       → length rs + log_bound ≤ 4000000000 → All IsWholeRecord left → AreRecords rack us left
   records_left rs story log left limits read records put few room whole = record {
     read = record {
       few = (let a = few_published rack (names_read rs) records.ended story records.replays in let b = ap length records.is in let c = ap length records.is_log in let d = length-map story (λ x. x.entry) in omega (arith, a, b, c, d, few, room));
-      ascends = subst Ascends (sym records.is) kept.ascends;
+      ascends = subst NamesAscend (sym records.is) kept.ascends;
       fits = subst (All (FitsRack rack)) (sym records.is) kept.fits;
     };
     each = each_of (IsRecordOver us) left (λ k r q. record {

@@ -13,6 +13,7 @@ pub mod MeantLemmas
 pub mod OutLemmas
 pub mod LendLemmas
 pub mod PairLemmas
+pub mod PastImages
 pub mod PointLemmas
 pub mod RecoveringLemmas
 pub mod ScriptLemmas

@@ -14,24 +14,24 @@ use Rattle.pot_outside.specs.Accounts.{Transition, until, since}
 use Rattle.pot_session.specs.declared.recovery.listing.ListFault.{ListFault}
 use Rattle.pot_recover.specs.Fronts.{has_front}
 use Rattle.pot_commands.specs.Streams.{Wrote}
-use Rattle.pot_session.specs.Listing.{IsBegun, Puts, front_at, least_of, part_in, part_of}
+use Rattle.pot_session.specs.Listing.{IsTextBegun, PutsText, front_at, least_of, part_in, part_of}
 
 -- WRITING
 
 -- nothing was written
-pub begun_nothing : (before text : List ℕ) → IsBegun before before text
+pub begun_nothing : (before text : List ℕ) → IsTextBegun before before text
 begun_nothing before text = ([], text, refl, sym (append-nil before))
 
 -- the first bytes of a text
-pub begun_front : (before after text : List ℕ) (count : ℕ) → after ≡ before ++ take count text → IsBegun before after text
+pub begun_front : (before after text : List ℕ) (count : ℕ) → after ≡ before ++ take count text → IsTextBegun before after text
 begun_front before after text count e = (take count text, drop count text, sym (take-append-drop count text), e)
 
 -- what begins a text begins a longer one
-pub begun_longer : (before after text more : List ℕ) → IsBegun before after text → IsBegun before after (text ++ more)
+pub begun_longer : (before after text more : List ℕ) → IsTextBegun before after text → IsTextBegun before after (text ++ more)
 begun_longer before after text more (first, rest, is, e) = (first, rest ++ more, ap (λ t. t ++ more) is ∙ append_assoc first rest more, e)
 
 -- behind a text that was written
-pub begun_behind : (before middle after text more : List ℕ) → middle ≡ before ++ text → IsBegun middle after more → IsBegun before after (text ++ more)
+pub begun_behind : (before middle after text more : List ℕ) → middle ≡ before ++ text → IsTextBegun middle after more → IsTextBegun before after (text ++ more)
 begun_behind before middle after text more written (first, rest, is, e) = (
   text ++ first,
   rest,
@@ -175,9 +175,9 @@ module _ {X : Type 0} (f : X → List ℕ) (xs : List X) (before middle after : 
       ∙ ap (λ l. l ++ flat_map f (drop (i + 1) xs)) (ap (flat_map f) next ∙ sym (flat_map_more f [] (take i xs) x)))
 
   -- one more was begun
-  pub texts_begun : IsBegun middle after (f x) → IsBegun before after (flat_map f xs)
+  pub texts_begun : IsTextBegun middle after (f x) → IsTextBegun before after (flat_map f xs)
   texts_begun begun =
-      subst (IsBegun before after) (sym split)
+      subst (IsTextBegun before after) (sym split)
       (begun_longer before after (flat_map f (take i xs) ++ f x) (flat_map f (drop (i + 1) xs)) (begun_behind before middle after (flat_map f (take i xs)) (f x) written begun))
 
 -- all texts were written
@@ -228,7 +228,7 @@ module _ (objects : List (List ℕ)) (object front : List ℕ) (piece : ℕ) (is
 
 -- ONE TEXT BEHIND ANOTHER
 
-pub puts_behind : {T : Type 0} (sink : Transition (List ℕ)) (middle text more : List ℕ) (r : Result T ListFault) → Wrote (until sink middle) text → Puts (since sink middle) more r
-    → Puts sink (text ++ more) r
+pub puts_behind : {T : Type 0} (sink : Transition (List ℕ)) (middle text more : List ℕ) (r : Result T ListFault) → Wrote (until sink middle) text → PutsText (since sink middle) more r
+    → PutsText sink (text ++ more) r
 puts_behind sink middle text more (Ok t) written puts = λ h. written_behind sink.before middle sink.after text more (written h) (puts h)
 puts_behind sink middle text more (Err e) written puts = λ h. begun_behind sink.before middle sink.after text more (written h) (puts h)

@@ -1,11 +1,11 @@
 -- The blocks that are read from archives.
 use Rattle.std.proofs.Common.{◌≡◌, ◌≢◌, ◌<◌, ◌≤◌, ◌+◌, ◌-◌, ◌^◌, ◌⊎◌, inl, inr, ℕ, Bool, true, false, List, refl, sym, ap, subst, ◌∙◌, arith}
-use Rattle.std.specs.Prelude.{Some, Result, Ok, Err, IsErr, IsOk, IsTrue, OnOk}
+use Rattle.std.specs.Prelude.{Some, Result, Ok, Err, IsErr, IsOk, IsTrue, OnErr, OnOk}
 use Rattle.std.proofs.lemmas.Bool.{cases_lt, cases_order}
 use Rattle.pot_outside.specs.Accounts.{Transition}
-use Rattle.pot_outside.specs.Archives.{Meaning, IsMeant}
+use Rattle.pot_outside.specs.Archives.{Meaning, IsMeant, IsVacant}
 use Rattle.pot_outside.specs.Counts.{Caused, Rose}
-use Rattle.pot_outside.specs.Rooms.{RoomState}
+use Rattle.pot_outside.specs.Rooms.{RoomState, MayLose}
 use Rattle.pot_outside.specs.declared.faults.Failed.{Failed}
 use Rattle.pot_outside.proofs.LossLemmas.{loses_more, loses_nothing}
 use Rattle.pot_doubles.proofs.CallLemmas.{rose_later}
@@ -17,7 +17,7 @@ use Rattle.pot_session.specs.declared.ending.status.Status.TheVariants as status
 use Rattle.pot_session.specs.declared.ending.stop.Stop.{Stop}
 use Rattle.pot_session.specs.declared.ending.stop.Stop.TheVariants as stop
 use Rattle.pot_session.specs.Listing.{has_partial}
-use Rattle.pot_session.specs.Recovering.{Adds, AreHeldIn, FindsObjects, Gathers, HasFailed, IsHeldIn, IsRecovery, ListAnswers, Recovers, SomeFailed, WasRead, WereRead}
+use Rattle.pot_session.specs.Recovering.{AddsSlot, AreHeldIn, FindsObjects, GathersBlocks, ArchiveFailed, IsHeldIn, IsLost, IsRecovery, ListAnswers, Recovers, SomeFailed, WasRead, WereRead}
 use Rattle.pot_session.specs.Stops.{status_of}
 use Rattle.pot_session.specs.Telling.{told_status}
 
@@ -30,8 +30,8 @@ read_more a b c p q = record {
   hears = q.hears ∙ p.hears;
 }
 
-pub gathers_more : (slot : ℕ) (old middle new : Meaning) (first before after : List (List ℕ)) → Gathers slot old middle first before → Adds slot middle new before after
-    → Gathers (slot + 1) old new first after
+pub gathers_more : (slot : ℕ) (old middle new : Meaning) (first before after : List (List ℕ)) → GathersBlocks slot old middle first before → AddsSlot slot middle new before after
+    → GathersBlocks (slot + 1) old new first after
 gathers_more slot old middle new first before after g a = record {
   read = read_more old middle new g.read a.read;
   keeps = λ b h. a.keeps b (g.keeps b h);
@@ -72,7 +72,7 @@ read_meant old new m n o w r = record {
 }
 
 -- and what came of it
-pub gathers_meant : (count : ℕ) (old new m n : Meaning) (before after : List (List ℕ)) → IsMeant m old → IsMeant n new → Gathers count old new before after → Gathers count m n before after
+pub gathers_meant : (count : ℕ) (old new m n : Meaning) (before after : List (List ℕ)) → IsMeant m old → IsMeant n new → GathersBlocks count old new before after → GathersBlocks count m n before after
 gathers_meant count old new m n before after o w g = record {
   read = read_meant old new m n o w g.read;
   keeps = g.keeps;
@@ -86,7 +86,7 @@ gathers_meant count old new m n before after o w g = record {
 -- ALL ARCHIVES
 
 pub held_more : (number stripes : ℕ) (meant middle means : ℕ → Meaning) (before after : List (List ℕ)) → AreHeldIn number stripes meant middle before
-    → ((n : ℕ) → number ≤ n → middle n ≡ meant n) → Gathers stripes (middle number) (means number) before after → ((n : ℕ) → n ≢ number → means n ≡ middle n)
+    → ((n : ℕ) → number ≤ n → middle n ≡ meant n) → GathersBlocks stripes (middle number) (means number) before after → ((n : ℕ) → n ≢ number → means n ≡ middle n)
     → AreHeldIn (number + 1) stripes meant means after
 held_more number stripes meant middle means before after h untouched g others = record {
   only = λ b c. elim (g.only b c) [
@@ -117,19 +117,18 @@ held_more number stripes meant middle means before after h untouched g others = 
 pub were_read : (archives number : ℕ) (old middle new : RoomState) → ((n : ℕ) → n < number → WasRead (old.means n) (middle.means n))
     → ((n : ℕ) → number ≤ n → middle.means n ≡ old.means n) → old.failures ≤ middle.failures
     → ((n : ℕ) → n ≢ number → new.means n ≡ middle.means n)
-    → ((Rose middle.failures new.failures → ⊥) → WasRead (middle.means number) (new.means number))
+    → WasRead (middle.means number) (new.means number) ⊎ IsLost middle new number
     → WereRead archives old new
 were_read archives number old middle new front untouched le others last = record {
   but = number;
-  read = λ n less why. elim (cases_order n number) [
-    | inl here ↦ elim why [
-      | inl differs ↦ absurd (differs here)
-      | inr still ↦ subst (λ m. WasRead m (new.means n)) (untouched n (omega (arith, here)))
-          (subst (λ k. WasRead (middle.means k) (new.means k)) (sym here) (last (λ r. still (rose_later old.failures middle.failures new.failures le r))))
+  read = λ n less. elim (cases_order n number) [
+    | inl here ↦ elim last [
+      | inl read ↦ inl (subst (λ m. WasRead m (new.means n)) (untouched n (omega (arith, here))) (subst (λ k. WasRead (middle.means k) (new.means k)) (sym here) read))
+      | inr lost ↦ inr (here, record { failed = rose_later old.failures middle.failures new.failures le lost.failed; vacant = subst (λ k. IsVacant (new.means k)) (sym here) lost.vacant })
     ]
-    | inr (inl before) ↦ subst (λ m. WasRead (old.means n) m) (sym (others n (λ e. omega (arith, before, e)))) (front n before)
+    | inr (inl before) ↦ inl (subst (λ m. WasRead (old.means n) m) (sym (others n (λ e. omega (arith, before, e)))) (front n before))
     | inr (inr behind) ↦
-        subst (λ m. WasRead m (new.means n)) (untouched n (omega (arith, behind))) (subst (λ m. WasRead (middle.means n) m) (sym (others n (λ e. omega (arith, behind, e)))) (read_not (middle.means n)))
+        inl (subst (λ m. WasRead m (new.means n)) (untouched n (omega (arith, behind))) (subst (λ m. WasRead (middle.means n) m) (sym (others n (λ e. omega (arith, behind, e)))) (read_not (middle.means n))))
   ];
   behind = λ n lt. others n (λ e. omega (arith, lt, e)) ∙ untouched n (omega (arith, lt));
 }
@@ -138,7 +137,7 @@ were_read archives number old middle new front untouched le others last = record
 pub all_read : (archives number : ℕ) (old new : RoomState) → archives ≤ number → ((n : ℕ) → n < number → WasRead (old.means n) (new.means n)) → ((n : ℕ) → number ≤ n → new.means n ≡ old.means n) → WereRead archives old new
 all_read archives number old new all read untouched = record {
   but = number;
-  read = λ n less why. read n (omega (arith, less, all));
+  read = λ n less. inl (read n (omega (arith, less, all)));
   behind = λ n lt. untouched n (omega (arith, lt));
 }
 
@@ -152,23 +151,28 @@ ok_gives (Err e) P ok p = absurd (cc)
 -- a read that failed at an archive which was then given back: the archive failed, or the room did
 pub why_failed : (room : Transition RoomState) (middle : RoomState) (number : ℕ) (given : Result (Unit {0}) Failed) (old new : Meaning) → room.before.failures ≤ middle.failures
     → Caused middle.failures room.after.failures (IsErr given) → OnOk given (IsTrue room.tells → IsMeant (room.after.means number) new) → (IsTrue room.tells → IsMeant (room.before.means number) old)
-    → Rose old.faults new.faults → Rose room.before.failures room.after.failures ⊎ (IsTrue room.tells → HasFailed (room.before.means number) (room.after.means number))
+    → Rose old.faults new.faults → Rose room.before.failures room.after.failures ⊎ (IsTrue room.tells → ArchiveFailed (room.before.means number) (room.after.means number))
 why_failed room middle number (Ok u) old new le cause back took rose =
     inr (λ t. subst (λ k. Rose k (room.after.means number).faults) (took t).faulted (subst (λ k. Rose old.faults k) (back t).faulted rose))
 why_failed room middle number (Err e) old new le cause back took rose = inl (rose_later room.before.failures middle.failures room.after.failures le (cause.rose refl))
 
--- an archive that was read and then given back to a room that did not fail
-pub read_back : (told : Type 0) (given : Result (Unit {0}) Failed) (before after : ℕ) (old new m n : Meaning) → (Rose before after → ⊥) → Caused before after (IsErr given)
-    → OnOk given (told → IsMeant n new) → told → IsMeant m old → WasRead old new → WasRead m n
-read_back told (Ok u) before after old new m n still cause back t o r = read_meant old new m n o (back t) r
-read_back told (Err e) before after old new m n still cause back t o r = absurd (still (cause.rose refl))
+-- an archive was read and then given back, or the room failed as it was to take it back
+pub read_back : (told : Type 0) (given : Result (Unit {0}) Failed) (room middle after : RoomState) (number : ℕ) (old new : Meaning) → room.failures ≤ middle.failures
+    → Caused middle.failures after.failures (IsErr given) → IsVacant (middle.means number) → OnErr given (MayLose (middle.means number) new (after.means number))
+    → OnOk given (told → IsMeant (after.means number) new) → told → IsMeant (room.means number) old → WasRead old new
+    → WasRead (room.means number) (after.means number) ⊎ IsLost room after number
+read_back told (Ok u) room middle after number old new le cause vacant lost back t o r = inl (read_meant old new _ _ o (back t) r)
+read_back told (Err e) room middle after number old new le cause vacant lost back t o r = elim lost [
+  | inl same ↦ inr (record { failed = rose_later room.failures middle.failures after.failures le (cause.rose refl); vacant = subst IsVacant (sym same) vacant })
+  | inr meant ↦ inl (read_meant old new _ _ o meant r)
+]
 
 -- so one of the first archives did
 pub some_failed : (room : Transition RoomState) (middle : RoomState) (archives number : ℕ) → number < archives → room.before.failures ≤ middle.failures → middle.means number ≡ room.before.means number
-    → Rose middle.failures room.after.failures ⊎ (IsTrue room.tells → HasFailed (middle.means number) (room.after.means number))
+    → Rose middle.failures room.after.failures ⊎ (IsTrue room.tells → ArchiveFailed (middle.means number) (room.after.means number))
     → Rose room.before.failures room.after.failures ⊎ (IsTrue room.tells → SomeFailed archives room.before room.after)
 some_failed room middle archives number lt le same (inl r) = inl (rose_later room.before.failures middle.failures room.after.failures le r)
-some_failed room middle archives number lt le same (inr h) = inr (λ t. (number, lt, subst (λ m. HasFailed m (room.after.means number)) same (h t)))
+some_failed room middle archives number lt le same (inr h) = inr (λ t. (number, lt, subst (λ m. ArchiveFailed m (room.after.means number)) same (h t)))
 
 -- THE WORD
 

@@ -16,7 +16,7 @@ use Rattle.pot_script.proofs.ScriptLemmas.{text_some}
 use Rattle.pot_replies.specs.Sessions.{jobs_of}
 use Rattle.pot_commands.specs.Ends.{next_job}
 use Rattle.pot_commands.specs.Steps.{steps_of}
-use Rattle.pot_session.specs.Commands.{IsRead}
+use Rattle.pot_session.specs.Commands.{IsScriptRead}
 
 -- no more commands than bytes
 texts_many : (cs : List Command) → length cs ≤ length (script_text cs)
@@ -60,7 +60,7 @@ module _ (rack : Rack) (bytes : List ℕ) (front cs : List Command) (s : IsScrip
 
 -- the steps of a script that was read
 pub is_read : (rack : Rack) (source : Transition (List ℕ)) (bytes : List ℕ) (cs : List Command) (ss : List Step) → (IsTrue source.tells → source.before ≡ bytes) → (s : IsScript rack bytes cs)
-    → flat_map spread ss ≡ s.steps → AllByRecursion (IsWholeStep rack) ss → IsRead rack source ss
+    → flat_map spread ss ≡ s.steps → AllByRecursion (IsWholeStep rack) ss → IsScriptRead rack source ss
 is_read rack source bytes cs ss read s spelled whole =
     let ended : cs ≡ flat_map spread ss ++ command.Quit ∷ [] = s.ended ∙ ap (λ l. l ++ command.Quit ∷ []) (sym spelled) in
     record {

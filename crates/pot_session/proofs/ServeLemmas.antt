@@ -5,6 +5,7 @@ use Rattle.pot_bytes.specs.Rack.{log_bound}
 use Rattle.pot_bytes.specs.declared.rack.Rack.{Rack}
 use Rattle.pot_bytes.specs.declared.rack.Place.{Place}
 use Rattle.pot_outside.specs.Accounts.{Content, Transition}
+use Rattle.pot_outside.specs.Desks.{Images}
 use Rattle.pot_outside.specs.Rooms.{RoomState}
 use Rattle.pot_index.specs.declared.record.Record.{Record}
 use Rattle.pot_index.specs.declared.record.Split.{Split}
@@ -17,7 +18,6 @@ use Rattle.pot_machine.specs.Table.{Table, slot_at}
 use Rattle.pot_machine.specs.Making.{empty_table}
 use Rattle.pot_script.specs.declared.grouping.Step.{Step}
 use Rattle.pot_image.specs.Images.{Contents}
-use Rattle.pot_image.specs.Spelling.{image_bytes}
 use Rattle.pot_turn.specs.declared.name.TurnName.{TurnName}
 use Rattle.pot_turn.specs.Views.{spent_view}
 use Rattle.pot_rows.specs.Rows.{HasMoreParts, PassRow, view_at}
@@ -33,8 +33,8 @@ use Rattle.pot_commands.specs.declared.working.Ending.{Ending}
 use Rattle.pot_commands.specs.declared.working.Ending.TheVariants as ending
 use Rattle.pot_commands.specs.Rows.{HasFilled, IsSessionSetting}
 use Rattle.pot_commands.specs.Ends.{Ends}
-use Rattle.pot_commands.specs.Failures.{Fails}
-use Rattle.pot_shared.specs.Going.{AllOnlyWriters, Stays}
+use Rattle.pot_commands.specs.Failures.{FailsOwn}
+use Rattle.pot_shared.specs.Going.{AllOnlyWriters, PassesStay}
 use Rattle.pot_commands.proofs.Judging.{ends_over}
 use Rattle.pot_session.specs.declared.ending.status.Status.{Status}
 use Rattle.pot_session.specs.declared.ending.status.Status.TheVariants as status
@@ -48,7 +48,7 @@ use Rattle.pot_session.proofs.CloseImages.{if_written}
 use Rattle.pot_session.proofs.LeftImage.{left_image, share_none}
 use Rattle.pot_session.proofs.LossLemmas.{lost_where_few}
 use Rattle.pot_session.specs.Desks.{IsKeepStop}
-use Rattle.pot_session.specs.Serving.{Serves, Closed, Closes, IsCloseStop, IsEnd, OthersStay, setting_of, status_after, status_by}
+use Rattle.pot_session.specs.Serving.{HoldsBegin, Serves, Closed, Closes, IsCloseStop, IsEnd, OtherArchivesStay, setting_of, status_after, status_by}
 
 -- THE TABLES
 
@@ -66,16 +66,16 @@ reads (v ∷ vs) [] long e = absurd (omega (arith, long))
 reads (v ∷ vs) (w ∷ ws) long e =
     ap (λ o. table_read o ++ flat_map (λ (x : GroupPass). table_read x.origin) ws) (e 0) ∙ ap (λ l. table_read v.origin ++ l) (reads vs ws (omega (arith, long)) (λ n. e (suc n)))
 
-pub same_read : (rack : Rack) (names : List TurnName) (old new : GroupPasses) → AreReady rack names old → AreReady rack names new → Stays old new → tables_read new ≡ tables_read old
+pub same_read : (rack : Rack) (names : List TurnName) (old new : GroupPasses) → AreReady rack names old → AreReady rack names new → PassesStay old new → tables_read new ≡ tables_read old
 same_read rack names old new a b s = reads old.views new.views (b.of.1 ∙ sym a.of.1) s.origin
 
-pub same_records : (old new : IndexPasses) → Stays old new → records_read new ≡ records_read old
+pub same_records : (old new : IndexPasses) → PassesStay old new → records_read new ≡ records_read old
 same_records old new s = ap records_in (s.origin 0)
 
-pub still_but_kept : (old new : GroupPasses) → Stays old new → HasAllButKept old → HasAllButKept new
+pub still_but_kept : (old new : GroupPasses) → PassesStay old new → HasAllButKept old → HasAllButKept new
 still_but_kept old new s h g l = (let p = h g (let n = ap length s.names in omega (arith, n, l)) in let q = s.parts g in omega (arith, p, q))
 
-pub still_all : {E O : Type 0} (old new : PassRow E O) → Stays old new → HasAllParts old → HasAllParts new
+pub still_all : {E O : Type 0} (old new : PassRow E O) → PassesStay old new → HasAllParts old → HasAllParts new
 still_all old new s h at l = s.parts at ∙ h at (let n = ap length s.names in omega (arith, n, l))
 
 -- THE SETTING
@@ -151,10 +151,10 @@ all_parts row h at l = (let p = h at l in omega (arith, p))
 -- THE END
 
 -- a session that worked its steps and closed
-pub serves_closed : (seed : List ℕ) (careful : Bool) (first : Contents) (steps : List Step) (room : Transition RoomState) (sink : Transition (List ℕ)) (desk : Transition (Content (Option (List ℕ)))) (rack : Rack) (session : ℕ) (old new : Known)
+pub serves_closed : (seed : List ℕ) (careful : Bool) (first : Contents) (steps : List Step) (room : Transition RoomState) (sink : Transition (List ℕ)) (desk : Transition (Content Images)) (rack : Rack) (session : ℕ) (old new : Known)
     (e : Ending) (worked : ℕ) (kept closed : Result (Unit {0}) Stop) (answer : Status) → AreFirstPasses old.groups old.index → tables_read old.groups ≡ first.tables → records_read old.index ≡ first.records → rack ≡ first.rack
-    → session ≡ first.session → Ends rack seed session sink steps old new e → Fails room.before.failures worked (e ≡ ending.RoomFailed) → (closes : Closes old new room worked desk first kept closed)
-    → (IsTrue desk.tells → desk.before.held ≡ Some (image_bytes first)) → (IsTrue room.tells → (e ≡ ending.RoomFailed → ⊥) → OthersStay first.tables closes.last.group_logs room.before.means room.after.means)
+    → session ≡ first.session → Ends rack seed session sink steps old new e → FailsOwn room.before.failures worked (e ≡ ending.RoomFailed) → (closes : Closes old new room worked desk first kept closed)
+    → (IsTrue desk.tells → HoldsBegin desk.before.held first) → (IsTrue room.tells → (e ≡ ending.RoomFailed → ⊥) → OtherArchivesStay first.tables closes.last.group_logs room.before.means room.after.means)
     → answer ≡ status_by careful e kept closed → FitsTogether first → length first.records + log_bound ≤ 4000000000
     → AreApart (all_had first.tables closes.last.group_logs) → AreLow (all_had first.tables closes.last.group_logs)
     → (AllOnlyWriters old new → (job : ℕ) → AreDrawn (pads_of seed session job) (blinds_by job old.groups new.groups)) → Serves seed careful first steps room sink desk answer

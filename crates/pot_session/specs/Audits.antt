@@ -117,13 +117,13 @@ loose_lines columns = flat_map loose_line columns
 -- The lines of all records were written, and behind them those of these columns; and it is answered
 -- whether some piece is bare, or there are such columns. Or the sink failed or memory ran out: in
 -- the lines of the records, or in those of the columns behind them.
-abbrev pub PutsAll : Transition (List ℕ) → Rack → List Spot → List Record → List Loose
+abbrev pub PutsWholeAudit : Transition (List ℕ) → Rack → List Spot → List Record → List Loose
     → Result Bool ListFault → Type 0
-PutsAll sink rack spots records columns (Ok found) =
+PutsWholeAudit sink rack spots records columns (Ok found) =
     (all : List Audited) × AreAudited rack spots records all
     × (found ≡ (has_bare all || are_some columns))
     × Wrote sink (audit_text all ++ loose_lines columns)
-PutsAll sink rack spots records columns (Err e) =
+PutsWholeAudit sink rack spots records columns (Err e) =
     PutsAudit sink rack spots records (Err e)
     ⊎ ((all : List Audited) × AreAudited rack spots records all
     × Began sink (audit_text all ++ loose_lines columns))
@@ -132,9 +132,9 @@ PutsAll sink rack spots records columns (Err e) =
 abbrev pub AuditAnswers : Transition (List ℕ) → Rack → List Spot → List Record → List Loose → Status
     → Type 0
 AuditAnswers sink rack spots records columns answer =
-    ((found : Bool) × PutsAll sink rack spots records columns (Ok found)
+    ((found : Bool) × PutsWholeAudit sink rack spots records columns (Ok found)
     × (answer ≡ told_status found))
-    ⊎ ((e : ListFault) × PutsAll sink rack spots records columns (Err e)
+    ⊎ ((e : ListFault) × PutsWholeAudit sink rack spots records columns (Err e)
     × ((answer ≡ status.SinkFault) ⊎ (answer ≡ status.NoMemory)))
 
 -- What `audit` comes to. The desk has no image; or it has one whose rack lacks a column that the

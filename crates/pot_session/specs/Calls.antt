@@ -3,6 +3,7 @@
 use Rattle.std.specs.Prelude.{◌≡◌, ◌⊎◌, ℕ, List, IsTrue}
 use Rattle.pot_outside.specs.Accounts.{Transition, Stays, held_in}
 use Rattle.pot_outside.specs.Counts.{Rose}
+use Rattle.pot_outside.specs.Desks.{image_met}
 use Rattle.pot_outside.specs.Rooms.{RoomState, MeansStay}
 use Rattle.pot_bytes.specs.declared.rack.Rack.{Rack}
 use Rattle.pot_options.specs.Options.{Text}
@@ -29,29 +30,29 @@ use Rattle.pot_session.specs.Runs.{Seen, Holds}
 -- drawn one. Or they spell `recover`, and neither the source nor the desk was touched; or `audit`,
 -- and nothing but the desk was read. Or they spell `generate`, and nothing but the sink was
 -- touched.
-pub data Runs (words : List Text) (drawn : List ℕ) (seen : Seen) (answer : Status) : Type 0 where
+pub data RunsProgram (words : List Text) (drawn : List ℕ) (seen : Seen) (answer : Status) : Type 0 where
   Nothing : AsksNothing words → Stays seen.source → Refuses seen.sink stop.Words answer
-      → Stays (held_in seen.desk) → MeansStay seen.room → Runs words drawn seen answer
+      → Stays (held_in seen.desk) → MeansStay seen.room → RunsProgram words drawn seen answer
   Short : answer ≡ status.NoMemory → Stays seen.source → Stays seen.sink
-      → Stays (held_in seen.desk) → MeansStay seen.room → Runs words drawn seen answer
+      → Stays (held_in seen.desk) → MeansStay seen.room → RunsProgram words drawn seen answer
   Makes : (rack : Rack) → SpellTask words (task.Init rack) → Stays seen.source
-      → Inits rack (held_in seen.desk) seen.sink answer → MeansStay seen.room
-      → Runs words drawn seen answer
+      → Inits rack (image_met seen.desk) seen.sink answer → MeansStay seen.room
+      → RunsProgram words drawn seen answer
   Session : (run : Run) → SpellTask words (task.Run run)
       → Holds (seed_of run drawn) run.careful seen answer
-      → Runs words drawn seen answer
+      → RunsProgram words drawn seen answer
   Drilling : (d : Drill) → SpellTask words (task.Drill d)
       → Drills d drawn seen.source seen.sink answer → Stays (held_in seen.desk)
-      → MeansStay seen.room → Runs words drawn seen answer
+      → MeansStay seen.room → RunsProgram words drawn seen answer
   Recovering : (r : Recover) → SpellTask words (task.Recover r) → Stays seen.source
       → Recovers r seen.room seen.sink answer → Stays (held_in seen.desk)
-      → Runs words drawn seen answer
+      → RunsProgram words drawn seen answer
   Auditing : (a : Audit) → SpellTask words (task.Audit a) → Stays seen.source
-      → Audits a (held_in seen.desk) seen.sink answer → Stays (held_in seen.desk)
-      → MeansStay seen.room → Runs words drawn seen answer
+      → Audits a (image_met seen.desk) seen.sink answer → Stays (held_in seen.desk)
+      → MeansStay seen.room → RunsProgram words drawn seen answer
   Generating : (n : ℕ) → SpellTask words (task.Generate n) → Stays seen.source
       → Generates n seen.sink answer → Stays (held_in seen.desk) → MeansStay seen.room
-      → Runs words drawn seen answer
+      → RunsProgram words drawn seen answer
 
 -- Why a call fails at the room: the room failed itself, and not an archive that it lent; or the
 -- words spell `recover`, and one of the archives that it read failed, by what the room means of it.

@@ -1,6 +1,6 @@
 -- What a session reads from its desk and writes there.
-use Rattle.std.specs.Prelude.{◌≡◌, ◌⊎◌, ◌<◌, ◌≤◌, ◌+◌, ◌-◌, ◌^◌, ℕ, List, [], Option, Some, None}
-use Rattle.std.specs.Prelude.{Result, Ok, Err, length, replicate, IsTrue}
+use Rattle.std.specs.Prelude.{◌≡◌, ◌⊎◌, ◌<◌, ◌≤◌, ◌+◌, ◌-◌, ◌^◌, ◌++◌, ℕ, List, []}
+use Rattle.std.specs.Prelude.{Option, Some, None, Result, Ok, Err, length, replicate, IsTrue}
 use Rattle.pot_bytes.specs.Rack.{log_bound}
 use Rattle.pot_outside.specs.Accounts.{Transition}
 use Rattle.pot_outside.specs.Failing.{MayLeave}
@@ -17,12 +17,12 @@ use Rattle.pot_session.specs.declared.ending.stop.Stop.TheVariants as stop
 abbrev pub CanGoOn : Contents → Type 0
 CanGoOn v = (v.session < 2 ^ 32 - 1) × (length v.records + log_bound ≤ 4000000000)
 
-abbrev pub GoesOn : Image → Type 0
-GoesOn i = CanGoOn (contents i)
+abbrev pub ImageGoesOn : Image → Type 0
+ImageGoesOn i = CanGoOn (contents i)
 
 -- the image is that of the last session that there can be
-abbrev pub IsLast : Image → Type 0
-IsLast i = (i.session ≡ 2 ^ 32 - 1) ⊎ (4000000000 < length i.records.items + log_bound)
+abbrev pub IsLastSession : Image → Type 0
+IsLastSession i = (i.session ≡ 2 ^ 32 - 1) ⊎ (4000000000 < length i.records.items + log_bound)
 
 -- why the bytes are no image from which a session may begin
 abbrev pub RefusesBytes : List ℕ → Stop → Type 0
@@ -30,14 +30,14 @@ RefusesBytes bytes stop.Cut = AnswersImage bytes (Err faults.Cut)
 RefusesBytes bytes (stop.Trailer kept computed) =
     AnswersImage bytes (Err (faults.Trailer kept computed))
 RefusesBytes bytes (stop.Form place) = AnswersImage bytes (Err (faults.Form place))
-RefusesBytes bytes stop.Spent = (i : Image) × AnswersImage bytes (Ok i) × IsLast i
+RefusesBytes bytes stop.Spent = (i : Image) × AnswersImage bytes (Ok i) × IsLastSession i
 RefusesBytes bytes stop.NoMemory = Unit {0}
 RefusesBytes bytes _ = ⊥
 
 -- the bytes are an image from which a session may begin, or it is said why not
-abbrev pub Opens : List ℕ → Result Image Stop → Type 0
-Opens bytes (Ok i) = AnswersImage bytes (Ok i) × GoesOn i
-Opens bytes (Err s) = RefusesBytes bytes s
+abbrev pub OpensImage : List ℕ → Result Image Stop → Type 0
+OpensImage bytes (Ok i) = AnswersImage bytes (Ok i) × ImageGoesOn i
+OpensImage bytes (Err s) = RefusesBytes bytes s
 
 -- The desk holds this image.
 abbrev pub HoldsImage : Option (List ℕ) → Image → Type 0
@@ -63,7 +63,7 @@ IsDeskStop _ = ⊥
 
 -- The desk's image was read, or it is said why not.
 abbrev pub OpensDesk : Transition (Option (List ℕ)) → Result Image Stop → Type 0
-OpensDesk desk (Ok i) = GoesOn i × (IsTrue desk.tells → HoldsImage desk.before i)
+OpensDesk desk (Ok i) = ImageGoesOn i × (IsTrue desk.tells → HoldsImage desk.before i)
 OpensDesk desk (Err s) = IsTrue desk.tells → RefusesDesk desk.before s
 
 -- why no image was read, whatever its session
@@ -108,8 +108,18 @@ IfWritten (Err _) P = P
 
 -- The desk holds these bytes now. Where it failed it holds them, what it held before or nothing,
 -- and for want of memory what it held before.
-abbrev pub Keeps : Transition (Option (List ℕ)) → List ℕ → Result (Unit {0}) Stop → Type 0
-Keeps desk bytes (Ok u) = desk.after ≡ Some bytes
-Keeps desk bytes (Err stop.DeskFault) = MayLeave desk.before bytes desk.after
-Keeps desk bytes (Err stop.NoMemory) = desk.after ≡ desk.before
-Keeps desk bytes (Err _) = ⊥
+abbrev pub DeskKeeps : Transition (Option (List ℕ)) → List ℕ → Result (Unit {0}) Stop → Type 0
+DeskKeeps desk bytes (Ok u) = desk.after ≡ Some bytes
+DeskKeeps desk bytes (Err stop.DeskFault) = MayLeave desk.before bytes desk.after
+DeskKeeps desk bytes (Err stop.NoMemory) = desk.after ≡ desk.before
+DeskKeeps desk bytes (Err _) = ⊥
+
+-- Of the images that a desk ever had: this one came to them, once or more often, or it did not; and
+-- no other did.
+abbrev pub Came : List (List ℕ) → List ℕ → List (List ℕ) → Type 0
+Came before image after = (n : ℕ) × (after ≡ before ++ replicate n image)
+
+-- so the first one came, and then the last one
+abbrev pub CameBoth : List (List ℕ) → (first last : List ℕ) → List (List ℕ) → Type 0
+CameBoth before first last after =
+    (between : List (List ℕ)) × Came before first between × Came between last after

@@ -8,7 +8,7 @@ use Rattle.pot_object.specs.Pieces.{longest, pieces_of}
 use Rattle.pot_pads.specs.Pads.{pads_of, next_bytes}
 use Rattle.pot_script.specs.Replies.{spaced, in_hex}
 use Rattle.pot_shard.specs.FileBlocks.{random_len}
-use Rattle.pot_veil.specs.Drills.{IsReport, IsFault}
+use Rattle.pot_veil.specs.Drills.{IsReport, IsDrillFault}
 use Rattle.pot_veil.specs.Seen.{AreSeen}
 use Rattle.pot_veil.specs.declared.drilling.DrillFault.TheVariants as fault
 use Rattle.pot_veil.specs.declared.drilling.DrillReport.{DrillReport}
@@ -71,7 +71,7 @@ pub data DrillsTo (d : Drill) (seed file other : List ℕ) (t : Telling) : Type 
       → t.text.items ≡ report_text (length file) r → t.refused ≡ false
       → DrillsTo d seed file other t
   Exposed : (number have need : ℕ) (random : List ℕ)
-      → IsFault d.geometry d.hidden d.seen.items random random (fault.Exposed number have need)
+      → IsDrillFault d.geometry d.hidden d.seen.items random random (fault.Exposed number have need)
       → t.text.items ≡ exposed_text number have need → t.refused ≡ true
       → DrillsTo d seed file other t
 

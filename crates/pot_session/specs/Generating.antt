@@ -1,10 +1,11 @@
 -- The generator: the script of a number, worked by a session over new archives in memory.
 use Rattle.std.specs.Prelude.{◌≡◌, ◌<◌, ◌+◌, ◌*◌, ◌++◌, ℕ, Bool, true, false, List, []}
-use Rattle.std.specs.Prelude.{Option, Some, None, Result, Ok, Err, codes}
+use Rattle.std.specs.Prelude.{Some, None, Result, Ok, Err, codes}
 use Rattle.std.specs.List.{count_by}
 use Rattle.pot_bytes.specs.Digests.{digest_bytes}
 use Rattle.pot_outside.specs.Accounts.{Content, Transition, Stays, transition_by}
 use Rattle.pot_outside.specs.Archives.{Meaning}
+use Rattle.pot_outside.specs.Desks.{Images}
 use Rattle.pot_outside.specs.Rooms.{RoomState}
 use Rattle.pot_outside.specs.declared.faults.Failed.{Failed}
 use Rattle.pot_doubles.specs.Rooms.{meaning_of}
@@ -13,7 +14,7 @@ use Rattle.pot_generator.specs.Runs.{is_replied, rack_of_runs, seed_of}
 use Rattle.pot_image.specs.Spelling.{image_bytes}
 use Rattle.pot_script.specs.Replies.{in_hex, spaced}
 use Rattle.pot_script.specs.Scripts.{script_text}
-use Rattle.pot_commands.specs.Streams.{Writes}
+use Rattle.pot_commands.specs.Streams.{WritesText}
 use Rattle.pot_session.specs.declared.ending.status.Status.{Status}
 use Rattle.pot_session.specs.declared.ending.status.Status.TheVariants as status
 use Rattle.pot_session.specs.Making.{empty_contents}
@@ -32,11 +33,11 @@ AreSound means = (n : ℕ) → n < archives_of_runs → (means n).faults ≡ 0
 -- of an archive failed.
 pub record IsGenerated (number : ℕ) (bytes : List ℕ) (ended : Status) : Type 0 where
   pub rest : List ℕ
-  pub desk : Content (Option (List ℕ))
-  pub leaves : Content (Option (List ℕ))
+  pub desk : Content Images
+  pub leaves : Content Images
   pub room : RoomState
   pub lends : RoomState
-  pub begun : desk.held ≡ Some (image_bytes (empty_contents rack_of_runs))
+  pub begun : desk.held.now ≡ Some (image_bytes (empty_contents rack_of_runs))
   pub empty : (n : ℕ) → room.means n ≡ meaning_of None
   pub unfailed : room.failures ≡ 0
   pub sound : AreSound lends.means
@@ -69,6 +70,6 @@ pub data Generates (number : ℕ) (sink : Transition (List ℕ)) (answer : Statu
   Told : (bytes : List ℕ) (ended : Status) → IsGenerated number bytes ended
       → is_answered ended ≡ true
       → (wrote : Result (Unit {0}) Failed)
-      → Writes sink (summary number bytes) wrote
+      → WritesText sink (summary number bytes) wrote
       → answer ≡ answer_of ended wrote → Generates number sink answer
   Starved : answer ≡ status.NoMemory → Stays sink → Generates number sink answer

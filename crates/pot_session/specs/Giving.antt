@@ -11,7 +11,7 @@ use Rattle.pot_shared.specs.Hands.{IsMeantButLost, times}
 
 -- The room failed at the taking back of each of these archives: so often at least its count of own
 -- failures rose, and not at all where there are none.
-pub record FailsAt (before now : ℕ) (missing : List ℕ) : Type 0 where
+pub record FailsToGive (before now : ℕ) (missing : List ℕ) : Type 0 where
   pub later : before ≤ now
   pub counted : (before + length missing ≤ now) ⊎ (2 ^ 64 - 1 ≤ now)
   pub still : missing ≡ [] → now ≡ before
@@ -22,10 +22,10 @@ AnswersFor missing (Ok u) = missing ≡ []
 AnswersFor missing (Err e) = 0 < length missing
 
 -- These archives were given back: some are missing, and each other one is what its number means.
-pub record GivesBack {A : Type 0} (archives : Account A Meaning) (hand : List (Shelf A))
+pub record GivesArchivesBack {A : Type 0} (archives : Account A Meaning) (hand : List (Shelf A))
     (old new : RoomState) (result : Result (Unit {0}) Failed) : Type 0 where
   pub missing : List ℕ
-  pub failed_at : FailsAt old.failures new.failures missing
+  pub failed_at : FailsToGive old.failures new.failures missing
   pub answers : AnswersFor missing result
   pub back : IsTrue archives.tells → (s : Shelf A) → Contains hand s → times s.number missing ≡ 0
       → IsMeant (new.means s.number) (archives.meaning s.archive)
@@ -37,15 +37,15 @@ pub record IsUnlent (room : Transition RoomState) : Type 0 where
   pub worked : ℕ
   pub rose : Rose room.before.failures worked
   pub missing : List ℕ
-  pub failed_at : FailsAt worked room.after.failures missing
+  pub failed_at : FailsToGive worked room.after.failures missing
   pub others : IsTrue room.tells → (n : ℕ) → times n missing ≡ 0
       → IsMeant (room.before.means n) (room.after.means n)
 
 -- Memory ran out over archives that were asked for. Those that the room had given were given back:
 -- some are missing, and each other number means what it meant, but for losses that its archive
 -- counted.
-pub record IsUnopened (room : Transition RoomState) : Type 0 where
+pub record IsRoomUnopened (room : Transition RoomState) : Type 0 where
   pub missing : List ℕ
-  pub failed_at : FailsAt room.before.failures room.after.failures missing
+  pub failed_at : FailsToGive room.before.failures room.after.failures missing
   pub others : IsTrue room.tells → (n : ℕ) → times n missing ≡ 0
       → IsMeantButLost (room.before.means n) (room.after.means n)

@@ -120,21 +120,21 @@ abbrev pub has_partial : List (List ℕ) → Bool
 has_partial objects = list_any (is_partial_at objects) (places_in objects)
 
 -- some first bytes of the text were written
-abbrev pub IsBegun : List ℕ → List ℕ → List ℕ → Type 0
-IsBegun before after text =
+abbrev pub IsTextBegun : List ℕ → List ℕ → List ℕ → Type 0
+IsTextBegun before after text =
     (first : List ℕ) × (rest : List ℕ) × (text ≡ first ++ rest) × (after ≡ before ++ first)
 
 abbrev pub Began : Transition (List ℕ) → List ℕ → Type 0
-Began sink text = IsTrue sink.tells → IsBegun sink.before sink.after text
+Began sink text = IsTrue sink.tells → IsTextBegun sink.before sink.after text
 
 -- the text was written; or some first bytes of it, since the sink failed or memory ran out
-abbrev pub Puts : {T : Type 0} → Transition (List ℕ) → List ℕ → Result T ListFault → Type 0
-Puts sink text (Ok t) = Wrote sink text
-Puts sink text (Err e) = Began sink text
+abbrev pub PutsText : {T : Type 0} → Transition (List ℕ) → List ℕ → Result T ListFault → Type 0
+PutsText sink text (Ok t) = Wrote sink text
+PutsText sink text (Err e) = Began sink text
 
 -- The listing was written, and the answer says whether some file is partial; or some first bytes of
 -- it were written, and the sink failed or memory ran out.
-abbrev pub Lists : Transition (List ℕ) → List (List ℕ) → Status → Type 0
-Lists sink objects answer =
+abbrev pub ListsObjects : Transition (List ℕ) → List (List ℕ) → Status → Type 0
+ListsObjects sink objects answer =
     ((answer ≡ told_status (has_partial objects)) × Wrote sink (listing objects))
     ⊎ (((answer ≡ status.SinkFault) ⊎ (answer ≡ status.NoMemory)) × Began sink (listing objects))

@@ -71,8 +71,8 @@ IsInVain t job p e =
 
 -- the job's last entry in the group of a place says so, and in the table before it the slot is not
 -- Live
-abbrev pub IsLeft : Setting → ℕ → Section → Place → Type 0
-IsLeft s job w p =
+abbrev pub IsPlaceLeft : Setting → ℕ → Section → Place → Type 0
+IsPlaceLeft s job w p =
     (x : List Entry) × (e : Entry) × (y : List Entry) × (w.added p.group ≡ x ++ e ∷ y)
     × (own job y ≡ [])
     × IsInVain (replayed (s.first p.group) (w.before p.group ++ x)) job p e
@@ -84,7 +84,7 @@ pub record FewCanBeHad (s : Setting) (job : ℕ) (kept : Record) (piece fragment
     (w : Section) : Type 0 where
   pub few : seen_of (mine job w).own kept piece fragment < kept.geometry.need
   pub others : (x : ℕ) → IsUnseen kept piece fragment (mine job w) x
-      → IsLeft s job w (place_at kept.geometry kept.places piece fragment x)
+      → IsPlaceLeft s job w (place_at kept.geometry kept.places piece fragment x)
 
 -- A `lost` by a section of these logs comes only so. The record is one that the rack has room for,
 -- as each is that a session reads or publishes.

@@ -30,15 +30,15 @@ empty_contents rack = record {
 -- The desk had no image and has the new one. It is refused where it has an image, which stays.
 -- Where it failed, one that had an image has it still, and one that had none has the new one or
 -- none.
-abbrev pub Makes : Rack → Transition (Option (List ℕ)) → Result (Unit {0}) Stop → Type 0
-Makes rack desk (Ok u) =
+abbrev pub MakesDesk : Rack → Transition (Option (List ℕ)) → Result (Unit {0}) Stop → Type 0
+MakesDesk rack desk (Ok u) =
     (desk.before ≡ None) × (desk.after ≡ Some (image_bytes (empty_contents rack)))
-Makes rack desk (Err stop.Exists) = IsSome desk.before × (desk.after ≡ desk.before)
-Makes rack desk (Err stop.DeskFault) =
+MakesDesk rack desk (Err stop.Exists) = IsSome desk.before × (desk.after ≡ desk.before)
+MakesDesk rack desk (Err stop.DeskFault) =
     (IsSome desk.before → desk.after ≡ desk.before)
     × MayLeave desk.before (image_bytes (empty_contents rack)) desk.after
-Makes rack desk (Err stop.NoMemory) = desk.after ≡ desk.before
-Makes rack desk (Err _) = ⊥
+MakesDesk rack desk (Err stop.NoMemory) = desk.after ≡ desk.before
+MakesDesk rack desk (Err _) = ⊥
 
 -- why no image was made, whether the desk tells its image or not
 abbrev pub IsMakeStop : Stop → Type 0
@@ -58,7 +58,7 @@ InitAnswers sink (Err s) answer = Refuses sink s answer
 pub record Inits (rack : Rack) (desk : Transition (Option (List ℕ))) (sink : Transition (List ℕ))
     (answer : Status) : Type 0 where
   pub made : Result (Unit {0}) Stop
-  pub makes : IsTrue desk.tells → Makes rack desk made
+  pub makes : IsTrue desk.tells → MakesDesk rack desk made
   pub which : IfErr made IsMakeStop
   pub image : IsImage (empty_contents rack)
   pub answers : InitAnswers sink made answer

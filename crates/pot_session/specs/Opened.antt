@@ -25,7 +25,7 @@ pub record IsOpenedWith {A : Type 0} (image : Contents) (o : Opened A) : Type 0 
   pub space : HasSpace (length image.tables) 512 o.remains
 
 -- an image of this session, this rack, these tables and these records
-pub record IsBegun (first : Contents) (session : ℕ) (rack : Rack) (tables : List Table)
+pub record IsSessionBegun (first : Contents) (session : ℕ) (rack : Rack) (tables : List Table)
     (records : List Record) : Type 0 where
   pub is_session : first.session ≡ session
   pub is_rack : first.rack ≡ rack
@@ -42,7 +42,7 @@ pub record Start : Type 0 where
 -- the start of this session, whose room tells or does not
 pub record IsStartOf {A : Type 0} (told : Type 0) (s : Start) (o : Opened A) : Type 0 where
   pub served : IsServedFrom told s.room.means s.old o.passes
-  pub begun : IsBegun s.first o.session o.rack (tables_read o.passes.groups)
+  pub begun : IsSessionBegun s.first o.session o.rack (tables_read o.passes.groups)
       (records_read o.passes.index)
 
 -- A session can close: it was served since it was opened, and its archives are those that are out

@@ -1,12 +1,14 @@
 -- What a session leaves: the replies of its steps, and the image of its close with the logs by
 -- which they have them.
 use Rattle.std.specs.Prelude.{◌≡◌, ◌<◌, ◌≤◌, ℕ, Bool, true, false, List, [], ◌∷◌}
-use Rattle.std.specs.Prelude.{Option, Some, Result, Ok, Err}
-use Rattle.std.specs.Prelude.{IfErr, flat_map, if◌then◌else◌, length, map, slice_index_or, IsTrue}
+use Rattle.std.specs.Prelude.{Some, Result, Ok, Err}
+use Rattle.std.specs.Prelude.{Contains, IfErr, flat_map, if◌then◌else◌, length, map}
+use Rattle.std.specs.Prelude.{slice_index_or, IsTrue}
 use Rattle.pot_bytes.specs.Rack.{log_bound}
-use Rattle.pot_outside.specs.Accounts.{Content, Transition, Stays, held_in, since}
+use Rattle.pot_outside.specs.Accounts.{Content, Transition, Stays, since}
 use Rattle.pot_outside.specs.Archives.{Meaning, IsMeant}
 use Rattle.pot_outside.specs.Counts.{Caused}
+use Rattle.pot_outside.specs.Desks.{HadItsImage, Images, image_met}
 use Rattle.pot_outside.specs.Rooms.{RoomState}
 use Rattle.pot_outside.specs.declared.faults.Failed.{Failed}
 use Rattle.pot_pads.specs.Pads.{pads_of}
@@ -18,7 +20,7 @@ use Rattle.pot_group.specs.Arrivals.{arrivals}
 use Rattle.pot_shelves.specs.Shelves.{Shelves}
 use Rattle.pot_script.specs.declared.grouping.Step.{Step}
 use Rattle.pot_image.specs.Images.{Contents}
-use Rattle.pot_image.specs.Rules.{IsImage, IsWhole}
+use Rattle.pot_image.specs.Rules.{IsImage, IsImageWhole}
 use Rattle.pot_image.specs.Spelling.{image_bytes}
 use Rattle.pot_replies.specs.Sections.{Section}
 use Rattle.pot_replies.specs.Sessions.{ByNobody}
@@ -30,7 +32,7 @@ use Rattle.pot_commands.specs.declared.working.Ending.{Ending}
 use Rattle.pot_commands.specs.declared.working.Ending.TheVariants as ending
 use Rattle.pot_commands.specs.declared.working.Ending.TheVariants.{RoomFailed}
 use Rattle.pot_commands.specs.Ends.{EndsOver}
-use Rattle.pot_commands.specs.Failures.{Fails}
+use Rattle.pot_commands.specs.Failures.{FailsOwn}
 use Rattle.pot_commands.specs.Holding.{Untouched}
 use Rattle.pot_shared.specs.Going.{AllOnlyWriters}
 use Rattle.pot_shared.specs.Hands.{AreApart, times}
@@ -39,10 +41,10 @@ use Rattle.pot_session.specs.declared.ending.status.Status.{Status}
 use Rattle.pot_session.specs.declared.ending.status.Status.TheVariants as status
 use Rattle.pot_session.specs.declared.ending.stop.Stop.{Stop}
 use Rattle.pot_session.specs.declared.ending.stop.Stop.TheVariants as stop
-use Rattle.pot_session.specs.Desks.{IfWritten, IsKeepStop, Keeps}
-use Rattle.pot_session.specs.Giving.{FailsAt, IsUnlent, IsUnopened}
+use Rattle.pot_session.specs.Desks.{Came, CameBoth, IfWritten, IsKeepStop, DeskKeeps}
+use Rattle.pot_session.specs.Giving.{FailsToGive, IsUnlent, IsRoomUnopened}
 use Rattle.pot_shared.specs.Groups.{MarksRose, MarksRoseOften}
-use Rattle.pot_shared.specs.Leaving.{AreLogs, AreOpened, ArePut, LeaveGroups, LeavesRecords}
+use Rattle.pot_shared.specs.Leaving.{AreLogs, AreOpened, AreRecordsPut, LeaveGroups, LeavesRecords}
 use Rattle.pot_shared.specs.Leaving.{Shows}
 use Rattle.pot_session.specs.Losses.{AreBack, LostNone, LostWhereFew, all_had}
 use Rattle.pot_session.specs.Stops.{status_of}
@@ -84,7 +86,7 @@ pub record Leaves (room : Transition RoomState) (missing : List ℕ) (first last
       (RoseOftenInRoom room.before.means room.after.means missing) first.tables w
   pub index_opened : w.index_before ≡ []
   pub few : length last.index_log ≤ log_bound
-  pub put : ArePut last.group_logs w.index_added
+  pub put : AreRecordsPut last.group_logs w.index_added
 
 -- THE CLOSE
 
@@ -93,13 +95,28 @@ abbrev pub close_answer : List ℕ → Result (Unit {0}) Stop → Result (Unit {
 close_answer [] kept = kept
 close_answer (n ∷ missing) kept = Err stop.RoomFault
 
+-- a session begins over a desk with this image, which is one that the desk ever had
+abbrev pub HoldsBegin : Images → Contents → Type 0
+HoldsBegin held first = (held.now ≡ Some (image_bytes first)) × HadItsImage held
+
+-- the desk holds the image with which a session began, and no other came to those that it ever had
+abbrev pub KeepsBegin : Transition (Content Images) → Contents → Type 0
+KeepsBegin desk first =
+    (desk.after.held.now ≡ Some (image_bytes first))
+    × Came desk.before.held.past (image_bytes first) desk.after.held.past
+
 -- The desk holds the image that a session left. Where it failed, which its count shows, it holds
 -- that one, the one with which the session began or none, and for want of memory the one with which
--- it began.
-pub record KeepsLast (desk : Transition (Content (Option (List ℕ)))) (first last : Contents)
+-- it began. To the images that it ever had came that of the begin and then that of the close, where
+-- the desk took it, and no other.
+pub record KeepsLast (desk : Transition (Content Images)) (first last : Contents)
     (kept : Result (Unit {0}) Stop) : Type 0 where
   pub holds : IsTrue desk.tells
-      → Keeps (since (held_in desk) (Some (image_bytes first))) (image_bytes last) kept
+      → DeskKeeps (since (image_met desk) (Some (image_bytes first))) (image_bytes last) kept
+  pub past : IsTrue desk.tells
+      → CameBoth desk.before.held.past (image_bytes first) (image_bytes last) desk.after.held.past
+  pub began : IsTrue desk.tells → Contains desk.after.held.past (image_bytes first)
+  pub had : IsTrue desk.tells → HadItsImage desk.after.held
   pub which : IfErr kept IsKeepStop
   pub cause : Caused desk.before.faults desk.after.faults (kept ≡ Err stop.DeskFault)
 
@@ -108,17 +125,17 @@ pub record KeepsLast (desk : Transition (Content (Option (List ℕ)))) (first la
 -- itself before the close. `kept` says whether the desk has the image, and `closed` what failed
 -- first.
 pub record Closes (old new : Known) (room : Transition RoomState) (worked : ℕ)
-    (desk : Transition (Content (Option (List ℕ)))) (first : Contents)
+    (desk : Transition (Content Images)) (first : Contents)
     (kept closed : Result (Unit {0}) Stop) : Type 0 where
   pub last : Contents
   pub sole : AllOnlyWriters old new
   pub missing : List ℕ
-  pub failed_at : FailsAt worked room.after.failures missing
+  pub failed_at : FailsToGive worked room.after.failures missing
   pub leaves : Leaves room missing first last (section_of old new)
   pub blinds : (job : ℕ) → 0 < job
       → HaveBlinds leaves.groups job (blinds_by job old.groups new.groups)
-  pub whole : IfWritten kept (IsWhole last)
-  pub keeps : (IsTrue desk.tells → desk.before.held ≡ Some (image_bytes first))
+  pub whole : IfWritten kept (IsImageWhole last)
+  pub keeps : (IsTrue desk.tells → HoldsBegin desk.before.held first)
       → KeepsLast desk first last kept
   pub is : closed ≡ close_answer missing kept
 
@@ -174,8 +191,8 @@ came_by logs = flat_map arrivals logs
 
 -- An archive that no table named with which the session began, and that none of its logs brought,
 -- is as it was.
-abbrev pub OthersStay : List Table → List (List Entry) → (ℕ → Meaning) → (ℕ → Meaning) → Type 0
-OthersStay read logs meant means =
+abbrev pub OtherArchivesStay : List Table → List (List Entry) → (ℕ → Meaning) → (ℕ → Meaning) → Type 0
+OtherArchivesStay read logs meant means =
     (n : ℕ) → times n (flat_map archives_in read) ≡ 0 → times n (came_by logs) ≡ 0
     → IsMeant (meant n) (means n)
 
@@ -192,20 +209,20 @@ pub record ShareNone (first last : Contents) : Type 0 where
 -- that is missing and at no other; `worked` is how often it had failed once the steps had ended.
 pub record IsClosed (seed : List ℕ) (careful : Bool) (first : Contents) (steps : List Step)
     (room : Transition RoomState) (sink : Transition (List ℕ))
-    (desk : Transition (Content (Option (List ℕ)))) (answer : Status) : Type 0 where
+    (desk : Transition (Content Images)) (answer : Status) : Type 0 where
   pub last : Contents
   pub story : Section
   pub ending : Ending
   pub ends : EndsOver (setting_of seed first) story sink steps ending
   pub worked : ℕ
-  pub fails : Fails room.before.failures worked (ending ≡ RoomFailed)
+  pub fails : FailsOwn room.before.failures worked (ending ≡ RoomFailed)
   pub missing : List ℕ
-  pub failed_at : FailsAt worked room.after.failures missing
+  pub failed_at : FailsToGive worked room.after.failures missing
   pub leaves : Leaves room missing first last story
   pub apart : ShareNone first last
   pub blinded : AreBlinded seed first.session leaves.groups
   pub others : IsTrue room.tells → (ending ≡ RoomFailed → ⊥)
-      → OthersStay first.tables last.group_logs room.before.means room.after.means
+      → OtherArchivesStay first.tables last.group_logs room.before.means room.after.means
   pub lost : IsTrue room.tells → AreBack missing first.tables last.group_logs
       → LostNone room.before.means room.after.means first.tables last.group_logs
       → LostWhereFew (setting_of seed first) last.group_logs
@@ -220,14 +237,14 @@ pub record IsClosed (seed : List ℕ) (careful : Bool) (first : Contents) (steps
 -- that the image does not name were not touched before the steps.
 pub data Serves (seed : List ℕ) (careful : Bool) (first : Contents) (steps : List Step)
     (room : Transition RoomState) (sink : Transition (List ℕ))
-    (desk : Transition (Content (Option (List ℕ)))) (answer : Status) : Type 0 where
+    (desk : Transition (Content Images)) (answer : Status) : Type 0 where
   Unlent : answer ≡ status.RoomFault → Stays sink
-      → (IsTrue desk.tells → desk.after.held ≡ Some (image_bytes first)) → IsUnlent room
+      → (IsTrue desk.tells → KeepsBegin desk first) → IsUnlent room
       → Untouched (flat_map archives_in first.tables) room.before room.after
       → Serves seed careful first steps room sink desk answer
   Unopened : answer ≡ status.NoMemory → Stays sink
-      → (IsTrue desk.tells → desk.after.held ≡ Some (image_bytes first))
-      → IsUnopened room × Untouched (flat_map archives_in first.tables) room.before room.after
+      → (IsTrue desk.tells → KeepsBegin desk first)
+      → IsRoomUnopened room × Untouched (flat_map archives_in first.tables) room.before room.after
       → Serves seed careful first steps room sink desk answer
   Closed : IsClosed seed careful first steps room sink desk answer
       → Serves seed careful first steps room sink desk answer

@@ -8,13 +8,15 @@ ghost use Rattle.pot_index.specs.Fits.{FitsRack};
 ghost use Rattle.pot_image.specs.Images.{contents};
 ghost use Rattle.pot_image.specs.Rules.{FitsTogether};
 ghost use Rattle.pot_outside.specs.Accounts.{Faults, Stays, transition};
+ghost use Rattle.pot_outside.specs.Desks.{image_transition};
 ghost use Rattle.pot_audit.specs.declared.veil.Veil.{Veil};
 ghost use Rattle.pot_audit.specs.Exposure.{AreSpots};
 ghost use Rattle.pot_audit.specs.Veils.{AreVeils};
-ghost use Rattle.pot_session.specs.Audits.{AuditAnswers, Audits, IsAudit, PutsAll, PutsAudit};
+ghost use Rattle.pot_session.specs.Audits.{AuditAnswers, Audits, IsAudit, PutsWholeAudit};
+ghost use Rattle.pot_session.specs.Audits.{PutsAudit};
 ghost use Rattle.pot_session.specs.Audits.{are_of, are_some, is_bare, loose_line, loose_lines};
 ghost use Rattle.pot_session.specs.Audits.{loose_of, spots_of, veil_line, veil_lines};
-ghost use Rattle.pot_session.specs.Listing.{Puts};
+ghost use Rattle.pot_session.specs.Listing.{PutsText};
 
 use crate::desk::read_desk;
 use crate::ending::refusing::refuse;
@@ -187,7 +189,7 @@ fn loose_of(
 
 /// Writes the lines of columns. Answers whether there are any.
 fn put_loose<K: Sink>(alloc: Global, columns: &[Loose], sink: &mut K) -> Result<bool, ListFault>
-    ensures puts { Puts (transition K.account sink.old sink.new)
+    ensures puts { PutsText (transition K.account sink.old sink.new)
         (loose_lines columns.now) result }
     ensures some { IfOk result (λ some. some ≡ are_some columns.now) }
     ensures cause { Faults K.account sink.old sink.new
@@ -214,7 +216,7 @@ fn put_all<K: Sink>(
     requires fits { FitsTogether (contents image.now) }
     requires fitting { AreSpots image.now.rack spots.now }
     requires spots { spots.now ≡ spots_of task.now }
-    ensures puts { PutsAll (transition K.account sink.old sink.new)
+    ensures puts { PutsWholeAudit (transition K.account sink.old sink.new)
         image.now.rack spots.now image.now.records.items (loose_of task.now image.now) result }
     ensures cause { Faults K.account sink.old sink.new
         (IsErrOf result ListFault.SinkFault) }
@@ -263,7 +265,7 @@ pub(crate) fn audit_files<K: Sink, D: Desk>(
     desk: &mut D,
 ) -> Status
     requires task { IsAudit task.now }
-    ensures audits { Audits task.now (transition D.account desk.old desk.new)
+    ensures audits { Audits task.now (image_transition D.account desk.old desk.new)
         (transition K.account sink.old sink.new) result }
     ensures keeps { Stays (transition D.account desk.old desk.new) }
     ensures sink { Faults K.account sink.old sink.new (result ≡ Status.SinkFault) }

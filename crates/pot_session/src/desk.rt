@@ -3,11 +3,12 @@
 ghost use Rattle.std.specs.Prelude.{◌≡◌, ◌<◌, ◌+◌, ◌-◌, ◌^◌, [], IsTrue, IfOk, IfErr, IsErrOf, map};
 ghost use Rattle.std.specs.Prelude.{replicate};
 ghost use Rattle.pot_outside.specs.Accounts.{Faults, Stays, transition};
+ghost use Rattle.pot_outside.specs.Desks.{HadItsImage, MayCome, image_transition};
 ghost use Rattle.pot_image.specs.Images.{contents};
 ghost use Rattle.pot_image.specs.Spelling.{IsCountable, image_bytes};
-ghost use Rattle.pot_image.specs.Rules.{FitsTogether, IsWhole};
-ghost use Rattle.pot_session.specs.Desks.{Opens, OpensDesk, ReadsDesk, IsImageIn, IsImageStop};
-ghost use Rattle.pot_session.specs.Desks.{IsDeskStop, begun, IfWritten, Keeps, IsKeepStop};
+ghost use Rattle.pot_image.specs.Rules.{FitsTogether, IsImageWhole};
+ghost use Rattle.pot_session.specs.Desks.{OpensImage, OpensDesk, ReadsDesk, IsImageIn, IsImageStop};
+ghost use Rattle.pot_session.specs.Desks.{IsDeskStop, begun, IfWritten, DeskKeeps, IsKeepStop};
 
 use crate::ending::stop::Stop;
 use pot_bytes::{LOG_BOUND, NoMemory};
@@ -41,7 +42,7 @@ fn image_in(alloc: Global, bytes: &[u8]) -> Result<Image, Stop>
 /// `DeskFault` only where the desk's count of faults rose; `NoImage` where the desk has none; else
 /// why its bytes are no image.
 pub(crate) fn read_desk<D: Desk>(alloc: Global, desk: &mut D) -> Result<Image, Stop>
-    ensures reads { ReadsDesk (transition D.account desk.old desk.new) result }
+    ensures reads { ReadsDesk (image_transition D.account desk.old desk.new) result }
     ensures fits { IfOk result (λ i. FitsTogether (contents i)) }
     ensures which { IfErr result IsImageStop }
     ensures keeps { Stays (transition D.account desk.old desk.new) }
@@ -57,7 +58,7 @@ pub(crate) fn read_desk<D: Desk>(alloc: Global, desk: &mut D) -> Result<Image, S
 
 /// The image that the bytes are, from which one more session may begin.
 fn open_image(alloc: Global, bytes: &[u8]) -> Result<Image, Stop>
-    ensures opens { Opens bytes.now result }
+    ensures opens { OpensImage bytes.now result }
     ensures fits { IfOk result (λ i. FitsTogether (contents i)) }
     ensures which { IfErr result IsDeskStop }
 {
@@ -78,10 +79,11 @@ fn open_image(alloc: Global, bytes: &[u8]) -> Result<Image, Stop>
 /// why its bytes are no image, or that no number of a session is left, or no room for the records
 /// of one.
 pub(crate) fn open_desk<D: Desk>(alloc: Global, desk: &mut D) -> Result<Image, Stop>
-    ensures opens { OpensDesk (transition D.account desk.old desk.new) result }
+    ensures opens { OpensDesk (image_transition D.account desk.old desk.new) result }
     ensures fits { IfOk result (λ i. FitsTogether (contents i)) }
     ensures which { IfErr result IsDeskStop }
     ensures keeps { Stays (transition D.account desk.old desk.new) }
+    ensures had { IsTrue D.account.tells → HadItsImage (D.account.meaning desk.new).held }
     ensures cause { Faults D.account desk.old desk.new (IsErrOf result Stop.DeskFault) }
 {
     match desk.read() {
@@ -135,9 +137,16 @@ pub(crate) fn begin(alloc: Global, image: Image) -> Result<Image, NoMemory>
 pub(crate) fn keep_image<D: Desk>(alloc: Global, image: &Image, desk: &mut D) -> Result<(), Stop>
     requires { IsCountable image.now }
     ensures which { IfErr result IsKeepStop }
-    ensures whole { IfWritten result (IsWhole (contents image.now)) }
+    ensures whole { IfWritten result (IsImageWhole (contents image.now)) }
     ensures told { IsTrue D.account.tells
-        → Keeps (transition D.account desk.old desk.new) (image_bytes (contents image.now)) result }
+        → DeskKeeps (image_transition D.account desk.old desk.new) (image_bytes
+        (contents image.now))
+        result }
+    ensures came { IsTrue D.account.tells
+        → MayCome (D.account.meaning desk.old).held.past (image_bytes (contents image.now))
+        (D.account.meaning desk.new).held.past }
+    ensures had { IsTrue D.account.tells → HadItsImage (D.account.meaning desk.old).held
+        → HadItsImage (D.account.meaning desk.new).held }
     ensures cause { Faults D.account desk.old desk.new (IsErrOf result Stop.DeskFault) }
 {
     let Ok(bytes) = write_image(alloc, image) else {

@@ -4,12 +4,13 @@ ghost use Rattle.std.specs.Prelude.{◌≡◌, IsTrue, IfOk, IfErr, IsErrOf, map
 ghost use Rattle.std.specs.List.{range_with_len};
 ghost use Rattle.pot_machine.specs.Making.{empty_table};
 ghost use Rattle.pot_outside.specs.Accounts.{Faults, transition};
+ghost use Rattle.pot_outside.specs.Desks.{image_transition};
 ghost use Rattle.pot_bytes.specs.Rack.{IsRack};
 ghost use Rattle.pot_image.specs.Images.{contents};
 ghost use Rattle.pot_image.specs.Rules.{IsImage};
 ghost use Rattle.pot_image.specs.Spelling.{image_bytes};
-ghost use Rattle.pot_session.specs.Desks.{IsKeepStop, Keeps};
-ghost use Rattle.pot_session.specs.Making.{empty_contents, Makes, IsMakeStop, Inits};
+ghost use Rattle.pot_session.specs.Desks.{IsKeepStop, DeskKeeps};
+ghost use Rattle.pot_session.specs.Making.{empty_contents, MakesDesk, IsMakeStop, Inits};
 
 use crate::desk::{empty_logs, keep_image};
 use crate::ending::refusing::refuse;
@@ -56,7 +57,8 @@ fn put_empty_image<D: Desk>(alloc: Global, rack: &Rack, desk: &mut D) -> Result<
     requires { IsRack rack.now }
     ensures which { IfErr result IsKeepStop }
     ensures told { IsTrue D.account.tells
-        → Keeps (transition D.account desk.old desk.new) (image_bytes (empty_contents rack.now)) result }
+        → DeskKeeps (image_transition D.account desk.old desk.new)
+        (image_bytes (empty_contents rack.now)) result }
     ensures cause { Faults D.account desk.old desk.new (IsErrOf result Stop.DeskFault) }
 {
     match empty_image(alloc, rack) {
@@ -71,7 +73,7 @@ pub(crate) fn make_image<D: Desk>(alloc: Global, rack: &Rack, desk: &mut D) -> R
     requires { IsRack rack.now }
     ensures which { IfErr result IsMakeStop }
     ensures told { IsTrue D.account.tells
-        → Makes rack.now (transition D.account desk.old desk.new) result }
+        → MakesDesk rack.now (image_transition D.account desk.old desk.new) result }
     ensures cause { Faults D.account desk.old desk.new (IsErrOf result Stop.DeskFault) }
 {
     match desk.read() {
@@ -96,7 +98,7 @@ pub(crate) fn init<K: Sink, D: Desk>(
     desk: &mut D,
 ) -> Status
     requires { IsRack rack.now }
-    ensures inits { Inits rack.now (transition D.account desk.old desk.new)
+    ensures inits { Inits rack.now (image_transition D.account desk.old desk.new)
         (transition K.account sink.old sink.new) result }
     ensures desk { Faults D.account desk.old desk.new (result ≡ Status.DeskFault) }
     ensures sink { Faults K.account sink.old sink.new (result ≡ Status.SinkFault) }

@@ -9,7 +9,7 @@ ghost use Rattle.pot_session.specs.Stops.{code_of};
 ghost use Rattle.pot_session.specs.Tasks.{seed_of};
 ghost use Rattle.pot_session.specs.declared.ending.status.Status.{Status};
 ghost use Rattle.pot_session.specs.Runs.{seen_by};
-ghost use Rattle.pot_session.specs.Calls.{RoomFails, Runs};
+ghost use Rattle.pot_session.specs.Calls.{RoomFails, RunsProgram};
 
 use crate::asking::{Asked, read_task};
 use crate::auditing::audit_files;
@@ -49,7 +49,7 @@ fn answer<S: Source, K: Sink, R: Room, D: Desk, W: Gate, X: Threads + Wait + Syn
     desk: &mut D,
 ) -> Status
     requires home { IsHome (R.meaning room.old) }
-    ensures runs { Runs (map string_bytes words.now) host.now.seed.now
+    ensures runs { RunsProgram (map string_bytes words.now) host.now.seed.now
         (seen_by (transition S.account source.old source.new) (transition K.account sink.old sink.new)
         (whole_transition D.account desk.old desk.new)
         (room_transition R.A.account R.meaning room.old room.new))
@@ -122,7 +122,7 @@ pub fn run<S: Source, K: Sink, R: Room, D: Desk, W: Gate, X: Threads + Wait + Sy
 ) -> u8
     requires home { IsHome (R.meaning room.old) }
     ensures runs { (status : Status) × (result ≡ code_of status)
-        × Runs (map string_bytes words.now) drawn
+        × RunsProgram (map string_bytes words.now) drawn
         (seen_by (transition S.account source.old source.new) (transition K.account sink.old sink.new)
         (whole_transition D.account desk.old desk.new)
         (room_transition R.A.account R.meaning room.old room.new))

@@ -9,7 +9,7 @@ use Rattle.pot_object.specs.Pieces.{pieces_of}
 use Rattle.pot_pointer.specs.Pointers.{blur}
 use Rattle.pot_shard.specs.FileBlocks.{coefficients_in, content_shards, fragment_len, fragment_shards, head_len, names_in, part_at, piece_random, shard_at_place, shard_of}
 use Rattle.pot_shard.specs.FileLaws.{content_in, object_in, shards_in, IsStore}
-use Rattle.pot_shard.specs.LinkedRings.{IsLinked, IsNext, IsRing}
+use Rattle.pot_shard.specs.LinkedRings.{IsLinked, IsNextPoint, IsLinkedRing}
 use Rattle.pot_shard.specs.Rings.{ring}
 use Rattle.pot_shard.specs.Shards.{shard_bytes, IsShardBlock}
 use Rattle.pot_shard.specs.declared.shard.Shard.{Shard}
@@ -39,7 +39,7 @@ unfolding shard_of
 x_at g content random k = refl
 
 -- a shard points to the one at the next point
-linked : (g : Geometry) (content random : List ℕ) (k l : ℕ) → k < g.shards → l < g.shards → IsNext g.shards (k + 1) (l + 1)
+linked : (g : Geometry) (content random : List ℕ) (k l : ℕ) → k < g.shards → l < g.shards → IsNextPoint g.shards (k + 1) (l + 1)
     → IsLinked (shard_at_place g content random k) (shard_at_place g content random l)
 unfolding shard_of
 linked g content random k l a b next =
@@ -60,7 +60,7 @@ linked g content random k l a b next =
       ];
     }
 
-ring_of_content : (g : Geometry) (content random : List ℕ) → IsRing g.shards (content_shards g content random)
+ring_of_content : (g : Geometry) (content random : List ℕ) → IsLinkedRing g.shards (content_shards g content random)
 unfolding content_shards
 ring_of_content g content random =
     let n = g.shards in
@@ -81,12 +81,12 @@ ring_of_content g content random =
           let b = at_place g content random t ht in
           let xs : s.x ≡ a.0 + 1 = ap (λ (z : Shard). z.x) a.2 ∙ x_at g content random a.0 in
           let xt : t.x ≡ b.0 + 1 = ap (λ (z : Shard). z.x) b.2 ∙ x_at g content random b.0 in
-          let here : IsNext n (a.0 + 1) (b.0 + 1) = subst (λ (z : ℕ). IsNext n z (b.0 + 1)) xs (subst (λ (z : ℕ). IsNext n s.x z) xt next) in
+          let here : IsNextPoint n (a.0 + 1) (b.0 + 1) = subst (λ (z : ℕ). IsNextPoint n z (b.0 + 1)) xs (subst (λ (z : ℕ). IsNextPoint n s.x z) xt next) in
           subst (λ (z : Shard). IsLinked z t) (sym a.2)
           (subst (λ (z : Shard). IsLinked (f a.0) z) (sym b.2) (linked g content random a.0 b.0 a.1 b.1 here));
     }
 
-pub rings_law : (g : Geometry) (file random : List ℕ) (i j : ℕ) → IsRing g.shards (shards_in g file random i j)
+pub rings_law : (g : Geometry) (file random : List ℕ) (i j : ℕ) → IsLinkedRing g.shards (shards_in g file random i j)
 unfolding fragment_shards
 rings_law g file random i j =
     ring_of_content g (content_in g file random i j) (part_at (head_len g) (fragment_len g) j (piece_random g i random))

@@ -7,7 +7,7 @@ use Rattle.byteorder.specs.Numbers.{big_from-lt, big_number-reads_back}
 use Rattle.pot_bytes.specs.Lists.{AreBytes}
 use Rattle.pot_bytes.proofs.ListLemmas.{AreBytes-drop}
 use Rattle.pot_object.proofs.NumberLemmas.{big_bytes_8}
-use Rattle.pot_shard.specs.Shards.{magic, shard_at, shard_bytes, HasWidths, IsFramed, IsShardBlock}
+use Rattle.pot_shard.specs.Shards.{magic, shard_at, shard_bytes, HasWidths, HasShardFrame, IsShardBlock}
 use Rattle.pot_shard.specs.declared.shard.Shard.{Shard}
 
 unfoldable pub made : ℕ → ℕ → ℕ → ℕ → ℕ → ℕ → List ℕ → Shard
@@ -36,7 +36,7 @@ shard_at-shard_bytes s w =
     ap (λ (z : ℕ). made s.x s.m s.n s.blur z (big_number 8 (big_bytes 8 s.pointer ++ back)) s.share) name
     ∙ ap (λ (z : ℕ). made s.x s.m s.n s.blur s.name z s.share) pointer
 
-pub IsFramed-shard_bytes : (s : Shard) → IsFramed (shard_bytes s)
+pub IsFramed-shard_bytes : (s : Shard) → HasShardFrame (shard_bytes s)
 unfolding shard_bytes
 IsFramed-shard_bytes s = (refl, refl)
 
@@ -66,7 +66,7 @@ four_bytes xs long =
     sym (ap (take 4) (a ∙ ap (λ (z : List ℕ). get_or xs 4 0 ∷ z) (b ∙ ap (λ (z : List ℕ). get_or xs 5 0 ∷ z) (c ∙ ap (λ (z : List ℕ). get_or xs 6 0 ∷ z) d))))
 
 -- the shard that was read is written again
-pub shard_bytes-shard_at : (bytes : List ℕ) → AreBytes bytes → length bytes ≡ 1024 → IsFramed bytes
+pub shard_bytes-shard_at : (bytes : List ℕ) → AreBytes bytes → length bytes ≡ 1024 → HasShardFrame bytes
     → shard_bytes (shard_at bytes) ≡ bytes
 unfolding shard_bytes
 shard_bytes-shard_at bytes small long framed =

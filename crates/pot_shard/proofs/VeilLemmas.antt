@@ -12,7 +12,7 @@ use Rattle.pot_shard.specs.FileBlocks.{coefficients_in, content_of, content_shar
 use Rattle.pot_shard.specs.FileLaws.{content_in, shards_in}
 use Rattle.pot_shard.specs.Places.{fragment_random}
 use Rattle.pot_shard.specs.Rings.{ring}
-use Rattle.pot_shard.specs.Veils.{ExplainsContent, ExplainsObject, VeilLaws}
+use Rattle.pot_shard.specs.Veils.{ExplainsContent, ExplainsObject, ShardVeilLaws}
 use Rattle.pot_shard.specs.declared.shard.Shard.{Shard}
 use Rattle.pot_shard.proofs.FileLemmas.{length-pads, whole_rows}
 
@@ -80,5 +80,5 @@ seen_law g content other random changed seen i e inside =
     } in
     ap₂ made e.names same
 
-pub veil_laws : VeilLaws
+pub veil_laws : ShardVeilLaws
 veil_laws = record { same = same_law; others = others_law; seen = seen_law }

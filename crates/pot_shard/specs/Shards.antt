@@ -52,5 +52,5 @@ shard_at bytes = record {
 }
 
 -- what stands round the fields: the magic, and the zeros before the share
-abbrev pub IsFramed : List ℕ → Type 0
-IsFramed bytes = (take 4 bytes ≡ magic) × (take 8 (drop 24 bytes) ≡ replicate 8 0)
+abbrev pub HasShardFrame : List ℕ → Type 0
+HasShardFrame bytes = (take 4 bytes ≡ magic) × (take 8 (drop 24 bytes) ≡ replicate 8 0)

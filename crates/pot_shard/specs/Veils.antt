@@ -7,7 +7,7 @@ use Rattle.pot_bytes.specs.Sums.{xor}
 use Rattle.pot_bytes.specs.declared.rack.Geometry.{Geometry}
 use Rattle.pot_object.specs.Pieces.{content_size, object_size}
 use Rattle.pot_split.specs.Secrecy.{changed_pads}
-use Rattle.pot_split.specs.Threshold.{explaining, ArePoints}
+use Rattle.pot_split.specs.Threshold.{explaining, AreNonzero}
 use Rattle.pot_shard.specs.FileBlocks.{coefficients_in, fragment_len, fragment_shards, fragments_of}
 use Rattle.pot_shard.specs.FileBlocks.{head_len, names_in, pads_in, part_at, shard_at_place}
 use Rattle.pot_shard.specs.FileLaws.{content_in, shards_in, IsPiece}
@@ -33,7 +33,7 @@ pub record IsVeiledContent (g : Geometry) (content other random seen : List ℕ)
   pub other_bytes : AreBytes other
   pub taken : length random ≡ fragment_len g
   pub random_bytes : AreBytes random
-  pub points : ArePoints seen
+  pub points : AreNonzero seen
   pub seen_bytes : AreBytes seen
   pub few : length seen < g.need
 
@@ -46,7 +46,7 @@ pub record ExplainsContent (g : Geometry) (content other random changed seen : L
   pub rows : coefficients_in g changed ≡ explaining content other seen (coefficients_in g random)
 
 -- What stays.
-pub record VeilLaws : Type 0 where
+pub record ShardVeilLaws : Type 0 where
   -- two stores, of other files and other random bytes too, have the same shards of a fragment where
   -- its content is the same and its random bytes are
   pub same : (g : Geometry) (file other random changed : List ℕ) (i j : ℕ)

@@ -4,8 +4,8 @@ use crate::*;
 use pot_bytes::{Block, Geometry, digest_of};
 use std::test::Fail;
 
-// The first four bytes of the digest of each block, computed apart from this crate: the polynomials byte by byte, and
-// the digests by Python's hashlib.
+// The first four bytes of the digest of each block, computed apart from this crate: the polynomials
+// byte by byte, and the digests by Python's hashlib.
 const OF_TWO_PIECES: [[u8; 4]; 12] = [
     [0xa6, 0x2e, 0x73, 0xbb],
     [0x79, 0x55, 0x1d, 0xb0],

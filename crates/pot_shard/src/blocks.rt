@@ -19,7 +19,8 @@ use pot_object::{CONTENT, OBJECT, count_pieces, write_content, write_object};
 use pot_split::{secrecy_split, share_out};
 use std::alloc::Global;
 
-/// The blocks of one piece of a file, by fragment and point. `random` is the random bytes of the piece.
+/// The blocks of one piece of a file, by fragment and point. `random` is the random bytes of the
+/// piece.
 ///
 /// A store that puts a file piece by piece holds the blocks of one piece alone. It takes no memory.
 pub fn piece_blocks(
@@ -80,8 +81,8 @@ fn file_blocks(file: &[u8], geometry: &Geometry, random: &[u8], out: &mut [Block
     }
 }
 
-/// The id that stands first in the random bytes of a file or a piece: their first 16 bytes, which are the id of the file
-/// or of the object of the piece.
+/// The id that stands first in the random bytes of a file or a piece: their first 16 bytes, which
+/// are the id of the file or of the object of the piece.
 pub fn id_in(random: &[u8]) -> [u8; 16]
     requires { 16 ≤ length random.now }
     ensures { result ≡ take 16 random.now }
@@ -115,7 +116,8 @@ fn object_blocks(object: &[u8; OBJECT], geometry: &Geometry, random: &[u8], out:
     }
 }
 
-/// The content of the fragment of this number, from 0, of an object. `random` is the random bytes of its piece.
+/// The content of the fragment of this number, from 0, of an object. `random` is the random bytes
+/// of its piece.
 pub fn fragment_content(
     object: &[u8; OBJECT],
     geometry: &Geometry,
@@ -143,7 +145,8 @@ fn last_fragment(object: &[u8; OBJECT], pads: &[u8]) -> [u8; OBJECT]
     last
 }
 
-/// The blocks of the fragment of this number, from 0, by point. `last` is the fragment that is no pad.
+/// The blocks of the fragment of this number, from 0, by point. `last` is the fragment that is no
+/// pad.
 fn fragment_blocks(
     last: &[u8; OBJECT],
     geometry: &Geometry,

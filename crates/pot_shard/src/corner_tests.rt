@@ -115,7 +115,8 @@ fn assert_assembled(
     assert!(rt; again.as_slice() == file.as_slice());
 }
 
-/// A file of two pieces is cut to shards, and the last of them, which have these points, give it back.
+/// A file of two pieces is cut to shards, and the last of them, which have these points, give it
+/// back.
 fn comes_back(rt: &(impl Abort + Alloc<A = Global>), geometry: &Geometry, points: &[u8])
     requires geometry { IsGeometry geometry.now }
     requires some { 0 < length points.now }

@@ -8,8 +8,8 @@ ghost use Rattle.pot_shard.specs.FileBlocks.{random_len};
 use pot_bytes::{Geometry, read_be64};
 use pot_object::{CONTENT, OBJECT};
 
-/// How many random bytes the store of a file of so many pieces takes: 16 for the file id, and for each piece those of
-/// its object, of its pads and of its fragments.
+/// How many random bytes the store of a file of so many pieces takes: 16 for the file id, and for
+/// each piece those of its object, of its pads and of its fragments.
 pub fn random_len(pieces: u32, geometry: &Geometry) -> u64
     requires some { 1 ≤ pieces }
     requires fits { pieces ≤ 1024 }

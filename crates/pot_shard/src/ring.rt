@@ -3,8 +3,8 @@ ghost use Rattle.pot_shard.specs.Rings.{ring};
 
 use pot_pointer::blur;
 
-/// The pointers of a ring of shards of these names: of each shard the blur of the name of the next, and of the last
-/// that of the first.
+/// The pointers of a ring of shards of these names: of each shard the blur of the name of the next,
+/// and of the last that of the first.
 pub fn ring_of(names: &[u64], bits: u8, pointers: &mut [u64])
     requires some { 0 < length names.now }
     requires same_length { length pointers.old ≡ length names.now }

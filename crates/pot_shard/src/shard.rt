@@ -1,5 +1,5 @@
 ghost use Rattle.std.specs.Prelude.{◌≡◌, ◌≤◌, ◌↔◌, List, ℕ, length, IsTrue, MatchOption};
-ghost use Rattle.pot_shard.specs.Shards.{shard_at, shard_bytes, HasWidths, IsFramed, IsShard};
+ghost use Rattle.pot_shard.specs.Shards.{shard_at, shard_bytes, HasWidths, HasShardFrame, IsShard};
 ghost use Rattle.pot_shard.specs.Shards.{IsShardBlock};
 
 use byteorder::{BigEndian, ByteOrder};
@@ -29,7 +29,8 @@ pub struct Shard {
     pub share: [u8; CONTENT],
 }
 
-/// The laws of shards: what is written is the block of the shard, and a block is that of one shard alone.
+/// The laws of shards: what is written is the block of the shard, and a block is that of one shard
+/// alone.
 pub fn shard_laws()
     ensures written { (s : Shard) → HasWidths s → IsShard s → IsShardBlock s (shard_bytes s) }
     ensures one_shard { (s t : Shard) (bytes : List ℕ) → IsShardBlock s bytes → IsShardBlock t bytes
@@ -89,7 +90,7 @@ fn shard_in(bytes: &[u8]) -> Shard
 /// Whether the magic and the zeros stand round the fields.
 fn is_framed(bytes: &[u8]) -> bool
     requires { 32 ≤ length bytes.now }
-    ensures { IsTrue result ↔ IsFramed bytes.now }
+    ensures { IsTrue result ↔ HasShardFrame bytes.now }
 {
     &bytes[..4] == MAGIC.as_slice() && &bytes[24..32] == ZEROS.as_slice()
 }

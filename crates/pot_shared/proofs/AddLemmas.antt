@@ -30,7 +30,7 @@ use Rattle.pot_shared.proofs.CallLemmas.{is_origin, is_table}
 use Rattle.pot_shared.proofs.MemberLemmas.{all_long, entries_all, entries_kept}
 use Rattle.pot_shared.specs.Works.{of_job, gained}
 use Rattle.pot_shared.proofs.WorkLemmas.{all_none, group_work, group_own, group_else, own_more, row_stays}
-use Rattle.pot_shared.specs.Adds.{Adds, FindsNext, IsFirst, IsFromOn, IsNextOf, Once}
+use Rattle.pot_shared.specs.Adds.{Adds, FindsNext, IsFirstTableSeen, IsFromOn, IsNextOf, Once}
 
 -- WHAT A GROUP READ
 
@@ -147,10 +147,10 @@ module _ (told : Type 0) (job : ℕ) (R : GroupView → GroupView → List Entry
       ∙ ap (λ es. entries_of call.turn.others ++ es) (entries_all call.turn.new.shelves call.turn.more call.turn.entries))
 
   -- the table that the call met
-  pub met_first : (first : Table) → IsFirst group v first → first ≡ call.turn.old.first
+  pub met_first : (first : Table) → IsFirstTableSeen group v first → first ≡ call.turn.old.first
   met_first first read = is_first (view_at v group).origin first (origin_of call.turn.old) call.turn.origin read
 
-  pub met_table : (first : Table) → IsFirst group v first → call.turn.old.table ≡ replayed first (entries_of (view_at v group).seen ++ entries_of call.turn.others)
+  pub met_table : (first : Table) → IsFirstTableSeen group v first → call.turn.old.table ≡ replayed first (entries_of (view_at v group).seen ++ entries_of call.turn.others)
   met_table first read =
       sym (replays_is call.turn.old.first call.turn.old.log call.turn.old.table call.turn.settled_old.replay)
       ∙ (ap (λ t. replayed t call.turn.old.log) (sym (met_first first read)) ∙ ap (replayed first) met_log)

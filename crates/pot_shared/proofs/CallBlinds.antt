@@ -1,6 +1,6 @@
 -- The blinds that a group has after a call: those that it had, and that of a relay that the call
 -- began.
-use Rattle.std.proofs.Common.{◌≡◌, ℕ, List, [], Result, Ok, Err, refl, ap}
+use Rattle.std.proofs.Common.{◌≡◌, ℕ, List, [], Result, Ok, Err, ap, sym, ◌∙◌, append-nil}
 use Rattle.pot_bytes.specs.declared.rack.Place.{Place}
 use Rattle.pot_outside.specs.Archives.{Meaning}
 use Rattle.pot_outside.specs.declared.archive.Shelf.{Shelf}
@@ -19,11 +19,11 @@ use Rattle.pot_group.specs.Relaying.{mend_as}
 use Rattle.pot_group.specs.Sweeping.{SweepCall}
 use Rattle.pot_execution.specs.Execution as call
 use Rattle.pot_execution.specs.Execution.{blind_of}
-use Rattle.pot_execution.proofs.Begun.{look_blinds, mend_blinds, move_blinds, no_blind}
+use Rattle.pot_execution.proofs.Begun.{look_keeps, mend_adds, move_adds}
 use Rattle.pot_shared.proofs.MemberLemmas.{MoreBlinds}
 
 pub none_more : (old new : GroupView) → new.blinds ≡ old.blinds → MoreBlinds old new
-none_more old new same = ([], no_blind old new same)
+none_more old new same = ([], same ∙ sym (append-nil old.blinds))
 
 pub same_more : (old new : GroupView) → new ≡ old → MoreBlinds old new
 same_more old new same = none_more old new (ap (λ (g : GroupView). g.blinds) same)
@@ -36,14 +36,14 @@ module _ {told : Type 0} {job : ℕ} {old new : GroupView} where
   look_more made = none_more old new made.2.logs.blinds
 
   pub sweep_more : {s c : ℕ} {result : Swept} → Made (SweepCall told job s c result) old new → MoreBlinds old new
-  sweep_more {s} {c} {result} made = none_more old new (look_blinds told job s c made.2.looks old new made.0 made.2.goes)
+  sweep_more {s} {c} {result} made = none_more old new (look_keeps told job s c made.2.looks old new made.0 made.2.goes).0
 
   pub mend_more : {place : Place} {blind : List ℕ} {result : Mend} → Made (MendCall told job place blind result) old new → MoreBlinds old new
   mend_more {place} {blind} {result} made =
-      (blind_of (call.Mend job place.stripe place.column blind (mend_as result)), mend_blinds job place.stripe place.column blind old new made.0 result made.2.tells)
+      (blind_of (call.Mend job place.stripe place.column blind (mend_as result)), (mend_adds job place.stripe place.column blind old new made.0 result made.2.tells).blinds)
 
   pub step_more : {c : ℕ} {result : Result MoveStep MoveFault} → Made (MoveStepCall told job c result) old new → MoreBlinds old new
-  step_more {c} {result} made = ([], move_blinds job c result old new made.0 made.2.tells)
+  step_more {c} {result} made = ([], (move_adds job c result old new made.0 made.2.tells).blinds)
 
 module _ (told : Type 0) (job : ℕ) (old new : GroupView) where
   pub count_more : (result : Result Counts LogFull) → Made (CountCall told job result) old new → MoreBlinds old new

@@ -25,8 +25,8 @@ use Rattle.pot_rows.proofs.RowLemmas.{at_past}
 use Rattle.pot_shared.specs.declared.member.Logged.{Logged}
 use Rattle.pot_shared.specs.Members.{kept_log, origin_of, entries_of}
 use Rattle.pot_shared.specs.Ready.{GroupPass, GroupPasses, AreReady}
-use Rattle.pot_shared.specs.Catalogs.{IndexPass, IndexPasses, IsIndexReady, IsKept}
-use Rattle.pot_shared.specs.Sharing.{Ends}
+use Rattle.pot_shared.specs.Catalogs.{IndexPass, IndexPasses, IsIndexReady, IsPassKept}
+use Rattle.pot_shared.specs.Sharing.{EndsVault}
 use Rattle.pot_shared.proofs.MemberLemmas.{entries_kept, entries_append}
 use Rattle.pot_machine.specs.Logs.{job_of}
 use Rattle.pot_replies.specs.Sessions.{ByNobody}
@@ -82,7 +82,7 @@ module _ {E O : Type 0} where
 -- THE FIRST TABLES
 
 pub closed_firsts : {M : Type 0} (see : M → GroupView) (rack : Rack) (names : List TurnName) (groups : GroupPasses) (index : IndexPass) (ms : List M) (ended : IndexView) → AreReady rack names groups
-    → Ends (λ m. kept_log (see m)) (λ m. origin_of (see m)) rack names groups index ms ended → map (λ m. (see m).first) ms ≡ tables_read groups
+    → EndsVault (λ m. kept_log (see m)) (λ m. origin_of (see m)) rack names groups index ms ended → map (λ m. (see m).first) ms ≡ tables_read groups
 closed_firsts see rack names groups index ms ended ready e =
     sym (read_of see groups.views ms (let a = ready.of.1 in let b = e.closed.count in let c = ap length e.whole_of.0 in omega (arith, a, b, c))
     (λ n m q. ap table_read (sym ((e.closed.each n m q).named ∙ ap (λ (v : GroupPass). v.origin) (e.joined n).both))))
@@ -91,14 +91,14 @@ closed_firsts see rack names groups index ms ended ready e =
 
 module _ {M : Type 0} (see : M → GroupView) (rack : Rack) (names turn : List TurnName) (groups : GroupPasses) (passes : IndexPasses) (ms : List M) (ended : IndexView)
     (ready : AreReady rack names groups) (index_ready : IsIndexReady rack names turn passes) (old : Known) (s : AreServed old (known groups passes))
-    (e : Ends (λ m. kept_log (see m)) (λ m. origin_of (see m)) rack names groups (view_at passes 0) ms ended) where
+    (e : EndsVault (λ m. kept_log (see m)) (λ m. origin_of (see m)) rack names groups (view_at passes 0) ms ended) where
   members_long : length ms ≡ length names
   members_long = e.closed.count ∙ ap length e.whole_of.0
 
   first_names : old.groups.names ≡ names
   first_names = sym s.stays.groups.names ∙ ready.of.0
 
-  kept_at : (n : ℕ) → n < length names → IsKept (view_at e.kept n)
+  kept_at : (n : ℕ) → n < length names → IsPassKept (view_at e.kept n)
   kept_at n l = e.are_kept n (let a = ap length e.kept_names in omega (arith, l, a))
 
   last : (n : ℕ) → n < length names → (Extends (view_at groups n) (view_at e.whole n)) × (mine (view_at groups n) (view_at e.whole n) ++ theirs (view_at groups n) (view_at e.whole n) ≡ [])

@@ -1,10 +1,7 @@
 -- Groups that were started, and that end one by one.
 use Rattle.std.proofs.Common.{◌≡◌, ◌≤◌, ◌<◌, ◌+◌, ◌-◌, ◌^◌, ◌⊎◌, ◌++◌, inl, inr, ℕ, zero, suc, List, [], ◌∷◌, length, take, drop, map, refl, sym, ap, subst, ◌∙◌, arith, append_assoc, append-nil, length-append}
 use Rattle.std.specs.Prelude.{Option, Some, None, All, Contains, slice_get, flat_map}
-use Rattle.std.proofs.Math.Seq.{take-append_seam, drop-append_seam}
-use Rattle.std.proofs.lemmas.Grind.{flat_map-append}
 use Rattle.std.proofs.lemmas.List.Elements.{All-head, All-tail}
-use Rattle.pot_bytes.specs.declared.rack.Rack.{Rack}
 use Rattle.std.proofs.lemmas.List.{map-append, length-map, append_cancel_left, take-append-drop}
 use Rattle.std.proofs.lemmas.Bool.Decides.{eqb_tells}
 use Rattle.pot_bytes.proofs.Elements.{none_contained}
@@ -31,9 +28,9 @@ use Rattle.pot_steps.specs.Holdings.{stripe_of}
 use Rattle.pot_outside.specs.Counts.{Rose}
 use Rattle.pot_shared.proofs.OpeningFew.{gone_few}
 use Rattle.pot_shared.proofs.Takings.{taking_is, taking_same}
-use Rattle.pot_shared.specs.Groups.{IsFirstTable, IsOpened, IsStarted, IsEnded, AreStarted, AreMarked, AreEnded, MarksRose, MarksRoseOften, RoseBy, RoseOftenBy, had_by}
+use Rattle.pot_shared.specs.Groups.{IsOpened, IsStarted, IsEnded, AreStarted, AreMarked, AreEnded, MarksRose, MarksRoseOften, RoseBy, RoseOftenBy, had_by}
 use Rattle.pot_shared.specs.Hands.{times, AreSame, AreMeant}
-use Rattle.pot_shared.proofs.Lists.{each_more, pair_more, same_flat, flat_snoc, flat_parts, grown, all_at}
+use Rattle.pot_shared.proofs.Lists.{each_more, same_flat, flat_snoc, flat_parts, grown}
 use Rattle.pot_shared.proofs.Times.{times-append}
 
 -- A START
@@ -193,55 +190,9 @@ opened_of told meaning meant number t handed g tells b e are table = record {
 pub had_started : (number : ℕ) (t : Table) (g : GroupView) → IsStarted number t g → had_by g ≡ archives_in t
 had_started number t g s = ap (λ l. archives_in g.first ++ l) s.none ∙ (append-nil (archives_in g.first) ∙ ap archives_in s.first)
 
--- the first groups were started, and these tables are left, whose archives are in the hand
-pub record StartedSofar {M : Type 0} (see : M → GroupView) (all left : List Table) (members : List M) (hand : List ℕ) : Type 0 where
-  pub done : List Table
-  pub parts : all ≡ done ++ left
-  pub started : AreStarted see done members
-  pub hand_is : hand ≡ flat_map archives_in left
-
-pub none_started : {M : Type 0} (see : M → GroupView) (all : List Table) (members : List M) (hand : List ℕ) → members ≡ [] → hand ≡ flat_map archives_in all → StartedSofar see all all members hand
-none_started see all members hand none e = record {
-  done = [];
-  parts = refl;
-  started = record { count = ap length none; each = λ n m t em et. absurd (cc) };
-  hand_is = e;
-}
-
-pub one_started : {M : Type 0} (see : M → GroupView) (all left rest : List Table) (t : Table) (members more : List M) (m : M) (hand now : List ℕ) → StartedSofar see all left members hand → left ≡ t ∷ rest
-    → more ≡ members ++ m ∷ [] → IsStarted (length members) t (see m) → now ≡ flat_map archives_in rest → StartedSofar see all rest more now
-one_started see all left rest t members more m hand now s el em is en = record {
-  done = s.done ++ t ∷ [];
-  parts = s.parts ∙ (ap (λ l. s.done ++ l) el ∙ sym (append_assoc s.done (t ∷ []) rest));
-  started = record {
-    count = ap length em ∙ (length-append members (m ∷ []) ∙ (ap (λ n. n + 1) s.started.count ∙ sym (length-append s.done (t ∷ []))));
-    each = subst (λ ms. (n : ℕ) (x : _) (y : Table) → slice_get ms n ≡ Some x → slice_get (s.done ++ t ∷ []) n ≡ Some y → IsStarted n y (see x)) (sym em)
-        (pair_more (λ n x y. IsStarted n y (see x)) members s.done m t s.started.count s.started.each is);
-  };
-  hand_is = en;
-}
-
-pub all_started : {M : Type 0} (see : M → GroupView) (all left : List Table) (members : List M) (hand : List ℕ) → StartedSofar see all left members hand → left ≡ [] → AreStarted see all members
-all_started see all left members hand s none = subst (λ ts. AreStarted see ts members) (sym (s.parts ∙ (ap (λ l. s.done ++ l) none ∙ append-nil s.done))) s.started
-
 -- the archives of those that were started
 pub had_all : {M : Type 0} (see : M → GroupView) (ts : List Table) (ms : List M) → AreStarted see ts ms → flat_map (λ m. had_by (see m)) ms ≡ flat_map archives_in ts
 had_all see ts ms s = same_flat (λ m. had_by (see m)) archives_in ms ts s.count (λ n m t em et. had_started n t (see m) (s.each n m t em et))
-
--- where the next could not be started, all archives are there still
-pub all_there : {M : Type 0} (see : M → GroupView) (all left : List Table) (members : List M) (hand now : List ℕ) → StartedSofar see all left members hand → AreSame now hand
-    → AreSame (now ++ flat_map (λ m. had_by (see m)) members) (flat_map archives_in all)
-all_there see all left members hand now s same n =
-    (let a = times-append n now (flat_map (λ m. had_by (see m)) members) in
-    let b : times n (flat_map (λ m. had_by (see m)) members) ≡ times n (flat_map archives_in s.done) = ap (times n) (had_all see s.done members s.started) in
-    let c : times n (flat_map archives_in all) ≡ times n (flat_map archives_in s.done) + times n (flat_map archives_in left) =
-    ap (times n) (ap (flat_map archives_in) s.parts ∙ flat_parts2 s.done left) ∙ times-append n (flat_map archives_in s.done) (flat_map archives_in left) in
-    let d : times n hand ≡ times n (flat_map archives_in left) = ap (times n) s.hand_is in
-    let e = same n in omega (arith, a, b, c, d, e))
-  where
-    flat_parts2 : (xs ys : List Table) → flat_map archives_in (xs ++ ys) ≡ flat_map archives_in xs ++ flat_map archives_in ys
-    flat_parts2 [] ys = refl
-    flat_parts2 (x ∷ xs) ys = ap (λ l. archives_in x ++ l) (flat_parts2 xs ys) ∙ sym (append_assoc (archives_in x) (flat_map archives_in xs) (flat_map archives_in ys))
 
 -- AN END
 
@@ -325,37 +276,3 @@ same_parts ss n k =
 
 pub long_parts : {X : Type 0} (xs : List X) (n : ℕ) → length (drop n xs) + length (take n xs) ≡ length xs
 long_parts xs n = (let a = ap length (take-append-drop n xs) in let b = length-append (take n xs) (drop n xs) in omega (arith, a, b))
-
--- the next table, its place and its archives, which are the first in the hand
-pub record NextTable {M : Type 0} (see : M → GroupView) (rack : Rack) (t : Table) (members : List M) (hand : List ℕ) : Type 0 where
-  pub fits : IsFirstTable rack t
-  pub count : length (archives_in t) ≤ length hand
-  pub first : take (length (archives_in t)) hand ≡ archives_in t
-
-pub next_table : {M : Type 0} (see : M → GroupView) (rack : Rack) (all left rest : List Table) (t : Table) (members : List M) (hand : List ℕ) → All (IsFirstTable rack) all → StartedSofar see all left members hand → left ≡ t ∷ rest
-    → NextTable see rack t members hand
-next_table see rack all left rest t members hand fits s el = record {
-  fits = all_at (IsFirstTable rack) s.done rest t (subst (All (IsFirstTable rack)) (s.parts ∙ ap (λ l. s.done ++ l) el) fits);
-  count = (let a = ap length split in let b = length-append (archives_in t) (flat_map archives_in rest) in omega (arith, a, b));
-  first = ap (take (length (archives_in t))) split ∙ take-append_seam (archives_in t) (flat_map archives_in rest);
-}
-  where
-    split : hand ≡ archives_in t ++ flat_map archives_in rest
-    split = s.hand_is ∙ ap (flat_map archives_in) el
-
--- and what is left of the hand without them
-pub hand_rest : {M : Type 0} (see : M → GroupView) (all left rest : List Table) (t : Table) (members : List M) (hand : List ℕ) → StartedSofar see all left members hand → left ≡ t ∷ rest
-    → drop (length (archives_in t)) hand ≡ flat_map archives_in rest
-hand_rest see all left rest t members hand s el =
-    ap (drop (length (archives_in t))) (s.hand_is ∙ ap (flat_map archives_in) el) ∙ drop-append_seam (archives_in t) (flat_map archives_in rest)
-
--- how many were started, and how many archives they have
-pub started_long : {M : Type 0} (see : M → GroupView) (all left : List Table) (members : List M) (hand : List ℕ) → StartedSofar see all left members hand → length members + length left ≡ length all
-started_long see all left members hand s = (let a = ap length s.parts in let b = length-append s.done left in let c = s.started.count in omega (arith, a, b, c))
-
-pub had_long : {M : Type 0} (see : M → GroupView) (all left : List Table) (members : List M) (hand : List ℕ) → StartedSofar see all left members hand
-    → length hand + length (flat_map (λ m. had_by (see m)) members) ≡ length (flat_map archives_in all)
-had_long see all left members hand s =
-    (let a = ap length (had_all see s.done members s.started) in let b = ap length s.hand_is in
-    let c = ap (λ l. length (flat_map archives_in l)) s.parts in let d = ap length (flat_map-append archives_in s.done left) in
-    let e = length-append (flat_map archives_in s.done) (flat_map archives_in left) in omega (arith, a, b, c, d, e))

@@ -13,7 +13,7 @@ use Rattle.pot_index.specs.declared.record.Split.{Split}
 use Rattle.pot_index.specs.Calls.{Renews}
 use Rattle.pot_index.specs.Entries.{entries, IsReserving}
 use Rattle.pot_index.specs.Fits.{FitsSplit}
-use Rattle.pot_index.specs.Index.{AreNames, IndexView, IsIndex, Names, Replays, names_read}
+use Rattle.pot_index.specs.Index.{AreNames, IndexView, IsIndex, Names, ReplaysIndex, names_read}
 use Rattle.pot_index.proofs.IndexLemmas.{started_is}
 use Rattle.pot_index.proofs.NamesKept.{replay_keeps, went_on, leads_once}
 use Rattle.pot_index.proofs.RecordLaws.{splits_stay}
@@ -134,11 +134,11 @@ renews_on job name split (Err renew_fault.NoMemory) s t (o, of, (room, few, is))
 
 -- whatever came between: a record keeps its file
 still_may : (rack : Rack) (n m k : Names) (log more : List Logged) (name : List ℕ) (split : Split) (row : GroupPasses) → AreNames rack n
-    → Replays rack n log m → Replays rack n (log ++ more) k → MayRenew rack m name split row → MayRenew rack k name split row
+    → ReplaysIndex rack n log m → ReplaysIndex rack n (log ++ more) k → MayRenew rack m name split row → MayRenew rack k name split row
 still_may rack n m k log more name split row names to all (r, is, fits, seen) =
     let parts = went_on rack n k log more all in
     let same : parts.0 ≡ m = leads_once rack n parts.0 m log parts.1 to in
-    let rest : Replays rack m more k = subst (λ (x : Names). Replays rack x more k) same parts.2 in
+    let rest : ReplaysIndex rack m more k = subst (λ (x : Names). ReplaysIndex rack x more k) same parts.2 in
     let now = splits_stay rack m k more r (replay_keeps rack n m log names to) rest is.0 in (
       now.0,
       (now.1, now.2.name ∙ is.1),
@@ -155,6 +155,6 @@ module _ {rack : Rack} {names turn : List TurnName} {row row1 : IndexPasses} (re
       let read : records_in (view_at row 0).origin ≡ old.index.read = sym (ap records_in origin) in
       let first : AreNames old.index.rack (names_read old.index.read) = (started_is old.index.rack old.index.read is_index.rack is_index.read).names in
       still_may old.index.rack (names_read old.index.read) n old.index.now (view_at row 0).seen begins.0 name split groups first
-      (subst (λ (rs : List Record). Replays old.index.rack (names_read rs) (view_at row 0).seen n) read (subst (λ (x : Rack). Replays x (names_read (records_in (view_at row 0).origin)) (view_at row 0).seen n) (sym same) to))
-      (subst (λ (l : List Logged). Replays old.index.rack (names_read old.index.read) l old.index.now) begins.1 is_index.replays)
+      (subst (λ (rs : List Record). ReplaysIndex old.index.rack (names_read rs) (view_at row 0).seen n) read (subst (λ (x : Rack). ReplaysIndex x (names_read (records_in (view_at row 0).origin)) (view_at row 0).seen n) (sym same) to))
+      (subst (λ (l : List Logged). ReplaysIndex old.index.rack (names_read old.index.read) l old.index.now) begins.1 is_index.replays)
       (subst (λ (x : Rack). MayRenew x n name split groups) (sym same) may)

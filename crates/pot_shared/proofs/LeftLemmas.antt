@@ -20,7 +20,7 @@ use Rattle.pot_machine.specs.declared.entry.Entry.{Entry}
 use Rattle.pot_index.specs.declared.entry.IndexEntry.{IndexEntry}
 use Rattle.pot_index.specs.declared.record.Record.{Record}
 use Rattle.pot_index.specs.Entries.{entries}
-use Rattle.pot_index.specs.Index.{IndexView, IsIndex, names_read, Replays}
+use Rattle.pot_index.specs.Index.{IndexView, IsIndex, names_read, ReplaysIndex}
 use Rattle.pot_group.specs.Arrivals.{arrivals}
 use Rattle.pot_group.specs.Group.{GroupView, GroupParts, IsSettled, view_of}
 use Rattle.pot_group.specs.Frames.{IsFramed}
@@ -38,14 +38,14 @@ use Rattle.pot_shared.specs.Members.{entries_of, kept_log, opened_at, origin_of,
 use Rattle.pot_shared.specs.Ready.{GroupPass, GroupPasses, AreReady}
 use Rattle.pot_shared.specs.Catalogs.{IndexPasses, IsIndexReady, records_in}
 use Rattle.pot_shared.specs.Seen.{SeesPut}
-use Rattle.pot_shared.specs.Sharing.{Ends}
+use Rattle.pot_shared.specs.Sharing.{EndsVault}
 use Rattle.pot_shared.specs.Works.{Known, known, blinds_by, blinds_in, gained, of_job, section_of}
 use Rattle.pot_shared.specs.Going.{AllOnlyWriters}
 use Rattle.pot_shared.specs.Hands.{times, AreApart}
 use Rattle.pot_shared.proofs.Times.{times-append}
 use Rattle.pot_shared.specs.Coming.{AreMarkedBy, came_in, marks_of, taking_of}
 use Rattle.pot_shared.specs.Groups.{AreServed, AreEnded, AreLow, AreTakenAt, HasMarks, HasTaken, HaveCome, IsOpened, MarksRose, MarksRoseOften, RoseBy, RoseOftenBy, had_by, tables_read, records_read}
-use Rattle.pot_shared.specs.Leaving.{AreOpened, ArePut, AreWithin, IsInHand, IsPutAt, RoseInHand, RoseOftenInHand, LeavesRecords, LeavesLogs, LeaveGroups, still}
+use Rattle.pot_shared.specs.Leaving.{AreOpened, AreRecordsPut, AreWithin, IsInHand, IsPutAt, RoseInHand, RoseOftenInHand, LeavesRecords, LeavesLogs, LeaveGroups, still}
 use Rattle.pot_shared.proofs.Lists.{same_at, flat_contains}
 use Rattle.pot_shared.proofs.GroupLemmas.{find_shelf}
 use Rattle.pot_rows.proofs.RowLemmas.{at_past}
@@ -82,7 +82,7 @@ had_parts see (m ∷ ms) n =
     let e = had_parts see ms n in omega (arith, a, b, c, d, e))
 
 module _ {M : Type 0} (see : M → GroupView) (rack : Rack) (names turn : List TurnName) (groups : GroupPasses) (passes : IndexPasses) (ms : List M) (ended : IndexView)
-    (ready : AreReady rack names groups) (index_ready : IsIndexReady rack names turn passes) (old : Known) (s : AreServed old (known groups passes)) (e : Ends (λ m. kept_log (see m)) (λ m. origin_of (see m)) rack names groups (view_at passes 0) ms ended) where
+    (ready : AreReady rack names groups) (index_ready : IsIndexReady rack names turn passes) (old : Known) (s : AreServed old (known groups passes)) (e : EndsVault (λ m. kept_log (see m)) (λ m. origin_of (see m)) rack names groups (view_at passes 0) ms ended) where
   firsts : map (λ m. (see m).first) ms ≡ tables_read groups
   firsts = closed_firsts see rack names groups (view_at passes 0) ms ended ready e
 
@@ -112,8 +112,8 @@ module _ {M : Type 0} (see : M → GroupView) (rack : Rack) (names turn : List T
   closed_records log records el er = subst (λ story. LeavesRecords rack (records_read passes) story log records) (closed_story see rack names turn groups passes ms ended ready index_ready old s e) (record {
     ended = ended.now;
     is_log = el;
-    replays = subst (λ rs. Replays rack (names_read rs) ended.log ended.now) (ap records_in e.index_closed.named)
-        (subst (λ r. Replays r (names_read ended.read) ended.log ended.now) e.index_rack e.is_index.replays);
+    replays = subst (λ rs. ReplaysIndex rack (names_read rs) ended.log ended.now) (ap records_in e.index_closed.named)
+        (subst (λ r. ReplaysIndex r (names_read ended.read) ended.log ended.now) e.index_rack e.is_index.replays);
     is = er;
   })
 
@@ -131,8 +131,8 @@ module _ {M : Type 0} (see : M → GroupView) (rack : Rack) (names turn : List T
       )
 
   -- so what came to the index was put
-  are_put : (logs : List (List Entry)) → logs ≡ map (λ m. (see m).log) ms → ArePut logs (added (view_at old.index 0) (view_at passes 0))
-  are_put logs eg = subst (ArePut logs) (closed_story see rack names turn groups passes ms ended ready index_ready old s e) (record {
+  are_put : (logs : List (List Entry)) → logs ≡ map (λ m. (see m).log) ms → AreRecordsPut logs (added (view_at old.index 0) (view_at passes 0))
+  are_put logs eg = subst (AreRecordsPut logs) (closed_story see rack names turn groups passes ms ended ready index_ready old s e) (record {
     puts = λ r brought b p at. (let f = e.seen r brought in seen_logged logs eg p (digest_of (slice_index_or (file_blocks r.geometry f.file f.random) b [])) (f.puts b p at));
     once = e.once;
   })
@@ -152,7 +152,7 @@ module _ {M : Type 0} (see : M → GroupView) (rack : Rack) (names turn : List T
 -- WHAT THE GROUPS LEAVE
 
 -- what the archives of a group hold, held and heard, by what their numbers meant
-within_of : (meant : ℕ → Meaning) (g : GroupView) → IsFramed g.first g.log g.shelves → HasHeard g.first g.log g.blinds g.flights g.shelves → HasTaken meant g → AreWithin meant g
+within_of : (meant : ℕ → Meaning) (g : GroupView) → IsFramed g.first g.log g.tried g.shelves → HasHeard g.first g.log g.blinds g.flights g.shelves → HasTaken meant g → AreWithin meant g
 within_of meant g frame heard taken = record {
   givens = heard.givens;
   are = heard.are;
@@ -182,7 +182,7 @@ within_of meant g frame heard taken = record {
 
 module _ {A M : Type 0} (told : Type 0) (meaning : A → Meaning) (parts : M → GroupParts A) (rack : Rack) (names turn : List TurnName) (groups : GroupPasses) (passes : IndexPasses) (ms : List M) (ended : IndexView)
     (ready : AreReady rack names groups) (index_ready : IsIndexReady rack names turn passes) (old : Known) (s : AreServed old (known groups passes))
-    (e : Ends (λ m. kept_log (view_of meaning (parts m))) (λ m. origin_of (view_of meaning (parts m))) rack names groups (view_at passes 0) ms ended) (all : AreEnded told (λ m. view_of meaning (parts m)) ms)
+    (e : EndsVault (λ m. kept_log (view_of meaning (parts m))) (λ m. origin_of (view_of meaning (parts m))) rack names groups (view_at passes 0) ms ended) (all : AreEnded told (λ m. view_of meaning (parts m)) ms)
     (meant : ℕ → Meaning) (taken : told → AreTakenAt meant old.groups)
     (marks : told → AllOnlyWriters old (known groups passes) → (g : ℕ) → g < length old.groups.names → AreMarkedBy meant (added (view_at old.groups g) (view_at groups g))) (hand : List (Shelf A)) (is_hand : hand ≡ flat_map (λ m. (parts m).shelves.shelves) ms) where
   -- its origin is the one that its first pass knows

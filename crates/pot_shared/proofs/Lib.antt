@@ -21,6 +21,9 @@ pub mod Results
 pub mod OpeningFew
 pub mod GroupLemmas
 pub mod LostLemmas
+pub mod GivenOut
+pub mod TakenIn
+pub mod Crossing
 pub mod OpenLemmas
 pub mod ComingLemmas
 pub mod CloseLemmas

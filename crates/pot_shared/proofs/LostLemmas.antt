@@ -1,13 +1,13 @@
 -- Archives that were read and no more: what they mean but for losses that they counted.
-use Rattle.std.proofs.Common.{◌≡◌, ◌≤◌, ◌<◌, ◌+◌, ◌-◌, ◌^◌, ◌++◌, ⊎_elim, inl, inr, ℕ, zero, suc, List, [], ◌∷◌, length, take, drop, refl, sym, ap, subst, ◌∙◌, arith}
-use Rattle.std.specs.Prelude.{Option, Some, None, Contains, slice_get, flat_map}
+use Rattle.std.proofs.Common.{◌≡◌, ◌≤◌, ◌<◌, ◌+◌, ◌-◌, ◌^◌, ◌++◌, ⊎_elim, inl, inr, ℕ, zero, suc, List, [], ◌∷◌, take, drop, sym, ap, subst, ◌∙◌, arith}
+use Rattle.std.specs.Prelude.{Option, Some, None, Contains}
 use Rattle.std.proofs.lemmas.Bool.Decides.{eqb_tells}
 use Rattle.std.proofs.lemmas.List.{map-append, take-append-drop}
 use Rattle.std.proofs.lemmas.List.Elements.{Contains-append_cases}
 use Rattle.pot_bytes.proofs.Elements.{none_contained}
-use Rattle.pot_outside.specs.Archives.{Meaning, IsMeant, OnlyLoses}
+use Rattle.pot_outside.specs.Archives.{Meaning, IsMeant}
 use Rattle.pot_outside.specs.declared.archive.Shelf.{Shelf}
-use Rattle.pot_machine.specs.Table.{Table, archives_in}
+use Rattle.pot_machine.specs.Table.{Table}
 use Rattle.pot_group.specs.Beginning.{Begins}
 use Rattle.pot_group.specs.Group.{GroupParts}
 use Rattle.pot_shelves.specs.Shelves.{numbers_of, shelf_of, given}

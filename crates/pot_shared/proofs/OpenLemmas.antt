@@ -21,13 +21,13 @@ use Rattle.pot_shared.specs.Callers.{CanCall}
 use Rattle.pot_shared.specs.Vaults.{VaultView}
 use Rattle.pot_shared.specs.Ready.{AreReady, GroupPass, GroupPasses, IsTableOf}
 use Rattle.pot_shared.specs.Catalogs.{IndexPasses, IsIndexReady}
-use Rattle.pot_shared.specs.Sharing.{AreFirst}
+use Rattle.pot_shared.specs.Sharing.{AreFirstGroupPasses}
 use Rattle.pot_shared.specs.Works.{Known}
 use Rattle.pot_replies.specs.Sessions.{ByNobody}
 use Rattle.pot_shared.proofs.MemberLemmas.{entries_kept, same_on}
 use Rattle.pot_shared.specs.Coming.{taking_of}
-use Rattle.pot_shared.specs.Groups.{AreStarted, AreOfRack, AreTakenFrom, AreFirstPasses, AreTakenAt, IsFirstPass, IsFirstTable, IsOpened, IsOpenedAt, RoseBy, RoseOftenBy, had_by, table_read, tables_read}
-use Rattle.pot_shared.proofs.Lists.{same_maps, same_flat, all_at_place}
+use Rattle.pot_shared.specs.Groups.{AreStarted, AreOfRack, AreTakenFrom, AreFirstPasses, AreTakenAt, IsFirstPass, IsFirstTable, IsOpened, IsOpenedAt, RoseBy, RoseOftenBy, table_read, tables_read}
+use Rattle.pot_shared.proofs.Lists.{same_maps, all_at_place}
 
 -- the first tables are those that the groups were started over
 pub firsts : {M : Type 0} (see : M → GroupView) (ts : List Table) (ms : List M) → AreStarted see ts ms → map (λ m. (see m).first) ms ≡ ts
@@ -58,7 +58,7 @@ can_call_of v k rack same is count ready index_ready = record {
 
 -- THE FIRST PASSES
 
-pub first_passes : {M : Type 0} (see : M → GroupView) (rack : Rack) (ms : List M) (names : List TurnName) (row : GroupPasses) (index : IndexPasses) (origin : CatalogOrigin) → AreOfRack see rack ms → AreFirst see ms row
+pub first_passes : {M : Type 0} (see : M → GroupView) (rack : Rack) (ms : List M) (names : List TurnName) (row : GroupPasses) (index : IndexPasses) (origin : CatalogOrigin) → AreOfRack see rack ms → AreFirstGroupPasses see ms row
     → AreOf names row → length names ≡ rack.groups → index.views ≡ first_view [] origin ∷ [] → AreFirstPasses row index
 first_passes {M} see rack ms names row index origin of first are count one = record {
   count = are.1 ∙ sym (ap length are.0);
@@ -86,13 +86,13 @@ read_of see (v ∷ vs) [] long e = absurd (omega (arith, long))
 read_of see (v ∷ vs) (m ∷ ms) long e =
     ap (λ l. l ++ flat_map (λ (w : GroupPass). table_read w.origin) vs) (e 0 m refl) ∙ ap (λ l. (see m).first ∷ l) (read_of see vs ms (omega (arith, long)) (λ n x q. e (suc n) x q))
 
-pub first_read : {M : Type 0} (see : M → GroupView) (rack : Rack) (ms : List M) (names : List TurnName) (row : GroupPasses) → AreOfRack see rack ms → AreFirst see ms row → AreOf names row → length names ≡ rack.groups
+pub first_read : {M : Type 0} (see : M → GroupView) (rack : Rack) (ms : List M) (names : List TurnName) (row : GroupPasses) → AreOfRack see rack ms → AreFirstGroupPasses see ms row → AreOf names row → length names ≡ rack.groups
     → tables_read row ≡ map (λ m. (see m).first) ms
 first_read see rack ms names row of first are count =
     read_of see row.views ms (let a = are.1 in omega (arith, a, count, of.count)) (λ n m q. ap (λ (v : GroupPass). table_read v.origin) (first n m q))
 
 -- what the first passes know of the archives and of the openings is so of the groups
-pub taken_at : {M : Type 0} (see : M → GroupView) (ms : List M) (names : List TurnName) (row : GroupPasses) (meant : ℕ → Meaning) → AreFirst see ms row → AreOf names row → length names ≡ length ms → AreTakenFrom meant see ms
+pub taken_at : {M : Type 0} (see : M → GroupView) (ms : List M) (names : List TurnName) (row : GroupPasses) (meant : ℕ → Meaning) → AreFirstGroupPasses see ms row → AreOf names row → length names ≡ length ms → AreTakenFrom meant see ms
     → AreTakenAt meant row
 taken_at {M} see ms names row meant first of long marked g o e = elim (cases_lt g (length names)) [
   | inl l ↦ (let m = element_at ms g (let n = long in omega (arith, l, n)) in at m.0 m.1)

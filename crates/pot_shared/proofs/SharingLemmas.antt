@@ -14,7 +14,7 @@ use Rattle.pot_rows.proofs.RowLemmas.{at_past}
 use Rattle.pot_shared.specs.Ready.{GroupPass, GroupPasses, AreReady, IsOrigin}
 use Rattle.pot_shared.specs.Seen.{RowKnowsMore}
 use Rattle.pot_shared.specs.Catalogs.{IndexPass, IndexPasses, IsIndexReady, IsIndexOf}
-use Rattle.pot_shared.specs.Sharing.{HasAllButKept, SameAt}
+use Rattle.pot_shared.specs.Sharing.{HasAllButKept, SamePasses}
 
 pub more_parts : (row : GroupPasses) → HasAllButKept row → HasMoreParts 1 row
 more_parts row h at l = (let p = h at l in omega (arith, p))
@@ -74,7 +74,7 @@ module _ {E O : Type 0} where
       ∙ ap (λ p. with_parts v v.seen v.joined v.made p) (let e : (v.parts - n) + n ≡ v.parts = omega (arith, some) in e)))
 
   pub back_again : (n : ℕ) (names : List TurnName) (old cut kept new : PassRow E O) → AreOf names old → AreOf names cut → AreOf names kept → AreOf names new
-      → RowCut n old cut → RowNew n old kept → RowJoined cut kept new → HasMoreParts n old → SameAt old new
+      → RowCut n old cut → RowNew n old kept → RowJoined cut kept new → HasMoreParts n old → SamePasses old new
   back_again n names old cut kept new of of_cut of_kept of_new is_cut is_new joined some at = elim (cases_lt at (length names)) [
     | inl lt ↦
         let within : at < length old.names = (let l = ap length of.0 in omega (arith, lt, l)) in

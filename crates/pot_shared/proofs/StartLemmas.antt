@@ -2,12 +2,12 @@
 use Rattle.std.proofs.Common.{◌≡◌, ◌<◌, inl, inr, ℕ, false, List, [], ◌∷◌, Contains, length, ap, sym, ◌∙◌, subst, arith}
 use Rattle.std.specs.Prelude.{map, slice_get, Some, option_map, ◌^◌}
 use Rattle.std.proofs.lemmas.List.{length-map}
-use Rattle.std.proofs.lemmas.Option.{slice_get-map, slice_get_cases, slice_get_within, get_or_from_slice_get, same_Some}
+use Rattle.std.proofs.lemmas.Option.{slice_get-map, slice_get_cases, slice_get_within, get_or_from_slice_get}
 use Rattle.pot_group.specs.Group.{GroupView}
 use Rattle.pot_bytes.specs.declared.rack.Rack.{Rack}
 use Rattle.pot_index.specs.declared.entry.IndexEntry.TheVariants as entry
 use Rattle.pot_index.specs.Entries.{bringing}
-use Rattle.pot_index.specs.Index.{IndexView, Names, IsIndex, Replays, names_read}
+use Rattle.pot_index.specs.Index.{IndexView, Names, IsIndex, ReplaysIndex, names_read}
 use Rattle.pot_turn.specs.declared.name.TurnName.{TurnName}
 use Rattle.pot_turn.specs.Views.{first_view, cut_view, spent_view, stretches_of}
 use Rattle.pot_rows.specs.Ends.{HasAllParts, IsUntouched}
@@ -18,7 +18,7 @@ use Rattle.pot_shared.specs.declared.catalog.CatalogOrigin.{CatalogOrigin}
 use Rattle.pot_shared.specs.Members.{kept_log, origin_of as group_origin}
 use Rattle.pot_shared.specs.Ready.{GroupPass, GroupPasses, AreReady, IsOrigin}
 use Rattle.pot_shared.specs.Catalogs.{KeepsSeen, Publishes, IndexPasses, IsIndexReady, IsIndexOf}
-use Rattle.pot_shared.specs.Sharing.{SameAt, HasAllButKept, IsGroupOf, AreFirst}
+use Rattle.pot_shared.specs.Sharing.{SamePasses, HasAllButKept, IsRackGroup, AreFirstGroupPasses}
 use Rattle.pot_shared.proofs.SharingLemmas.{new_ready, cut_ready}
 
 -- an index that has published nothing, with new passes of two parts each
@@ -34,7 +34,7 @@ keeps_first rack names old kept index ready of new same log is_index count = rec
     ap (λ (v : GroupPass). v.made) is,
   )));
   seen = (λ r p. absurd (let q = subst (λ l. Publishes l r) log p in let lt = q.1.1 in omega (arith, lt)));
-  told = (λ r has. (let now : index.now ≡ names_read index.read = subst (λ l. Replays index.rack (names_read index.read) l index.now) log is_index.replays in
+  told = (λ r has. (let now : index.now ≡ names_read index.read = subst (λ l. ReplaysIndex index.rack (names_read index.read) l index.now) log is_index.replays in
       inl (subst (λ (n : Names). Contains n.published r) now has)));
   once = (λ job name mark r has. absurd (let q = subst (λ l. Contains l (bringing (entry.Publish job name mark) r)) log has in let lt = q.1 in omega (arith, lt)));
 }
@@ -43,7 +43,7 @@ keeps_first rack names old kept index ready of new same log is_index count = rec
 
 module _ {M : Type 0} (see : M → GroupView) (members : List M) (rack : Rack) (names : List TurnName) (row : GroupPasses) (of : AreOf names row)
     (first : row.views ≡ map (λ m. first_view (kept_log (see m)) (group_origin (see m))) members)
-    (are : (n : ℕ) (m : M) → slice_get members n ≡ Some m → IsGroupOf rack n (see m)) where
+    (are : (n : ℕ) (m : M) → slice_get members n ≡ Some m → IsRackGroup rack n (see m)) where
   abbrev begun : M → GroupPass
   begun m = first_view (kept_log (see m)) (group_origin (see m))
 
@@ -99,12 +99,12 @@ module _ {M : Type 0} (see : M → GroupView) (members : List M) (rack : Rack) (
         let q = all_parts g here in
         omega (arith, p, q)
 
-    pub are_first : AreFirst see members cut
+    pub are_first : AreFirstGroupPasses see members cut
     are_first n m at =
         is n (let w = slice_get_within members n m at in let l = as_many in let k = names_long in omega (arith, w, l, k)) ∙ ap (λ (v : GroupPass). cut_view 2 v) (begun_at n m at)
 
   -- WHERE THE GROUPS COME BACK
-  module _ (back : GroupPasses) (of_back : AreOf names back) (same : SameAt row back) where
+  module _ (back : GroupPasses) (of_back : AreOf names back) (same : SamePasses row back) where
     pub back_idle : IsIdle back
     back_idle g lt = ap (λ (v : GroupPass). v.holds) (same g) ∙ first_ready.idle g
 

@@ -1,10 +1,9 @@
 -- What archives meant when their groups took them, as plain lists.
 use Rattle.std.proofs.Common.{◌≡◌, ◌⊎◌, ◌<◌, ◌^◌, ℕ, zero, suc, inl, inr, List, [], ◌∷◌, ◌++◌, length, Option, Some, refl, sym, ap, ◌∙◌, subst, arith}
-use Rattle.std.specs.Prelude.{Contains, slice_get}
+use Rattle.std.specs.Prelude.{slice_get}
 use Rattle.std.proofs.lemmas.Option.{same_Some}
 use Rattle.pot_bytes.proofs.Basis.{last_or}
-use Rattle.pot_outside.specs.Archives.{Contents, Meaning, IsMeant}
-use Rattle.pot_outside.specs.declared.archive.Marks.{Marks}
+use Rattle.pot_outside.specs.Archives.{HeldBlocks, Meaning, IsMeant}
 use Rattle.pot_shelves.specs.Shelves.{Shelves}
 use Rattle.pot_shared.specs.declared.member.Taking.{Taking}
 use Rattle.pot_shared.specs.Coming.{first_blocks, blocks_of, taking_of}
@@ -37,7 +36,7 @@ taking_stays old new n f l t =
     ∙ ap (λ (m : Meaning). made (old.faults_taken n) (old.losses_taken n) (blocks_of m.held) m.history m.heard) t
 
 -- a block by its slot
-first_long : (n : ℕ) (f : Contents) → length (first_blocks n f) ≡ n
+first_long : (n : ℕ) (f : HeldBlocks) → length (first_blocks n f) ≡ n
 unfolding first_blocks
 first_long zero f = refl
 first_long (suc n) f = length_push (first_blocks n f) (f n) ∙ ap suc (first_long n f)
@@ -55,7 +54,7 @@ get_last : (xs : List (Option (List ℕ))) (x : Option (List ℕ)) → slice_get
 get_last [] x = refl
 get_last (y ∷ xs) x = get_last xs x
 
-first_at : (n : ℕ) (f : Contents) (k : ℕ) → k < n → slice_get (first_blocks n f) k ≡ Some (f k)
+first_at : (n : ℕ) (f : HeldBlocks) (k : ℕ) → k < n → slice_get (first_blocks n f) k ≡ Some (f k)
 unfolding first_blocks
 first_at zero f k l = absurd (omega (arith, l))
 first_at (suc n) f k l = elim (last_or k n l) [
@@ -65,5 +64,5 @@ first_at (suc n) f k l = elim (last_or k n l) [
 ]
 
 -- the blocks of a slot that two archives were taken with
-pub blocks_same : (f h : Contents) → blocks_of f ≡ blocks_of h → (k : ℕ) → k < 2 ^ 32 → f k ≡ h k
+pub blocks_same : (f h : HeldBlocks) → blocks_of f ≡ blocks_of h → (k : ℕ) → k < 2 ^ 32 → f k ≡ h k
 blocks_same f h e k l = same_Some (f k) (h k) (sym (first_at (2 ^ 32) f k l) ∙ ap (λ bs. slice_get bs k) e ∙ first_at (2 ^ 32) h k l)

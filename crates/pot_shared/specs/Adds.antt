@@ -22,20 +22,20 @@ pub record Adds (job g : ℕ) (entries : List Entry) (old new : GroupPasses) : T
   pub grew : length (view_at old g).seen + length entries ≤ length (view_at new g).seen
 
 -- the table that the group of a number read, as far as its pass knows one
-abbrev pub IsFirst : ℕ → GroupPasses → Table → Type 0
-IsFirst g row first = IfSome (view_at row g).origin (λ o. first ≡ o.first)
+abbrev pub IsFirstTableSeen : ℕ → GroupPasses → Table → Type 0
+IsFirstTableSeen g row first = IfSome (view_at row g).origin (λ o. first ≡ o.first)
 
 -- at some point of what the pass of a group gained, its table was so, the one that it read being
 -- `first`
 abbrev pub Once : (Table → Table → Type 0) → ℕ → GroupPasses → GroupPasses → Type 0
 Once P g old new =
-    (first : Table) → IsFirst g old first
+    (first : Table) → IsFirstTableSeen g old first
     → (x : List Entry) × (y : List Entry) × (gained old new g ≡ x ++ y)
     × P first (replayed first (entries_of (view_at old g).seen ++ x))
 
 -- the slot, if it is one, fails the test
-abbrev pub Fails : (SlotState → Bool) → ℕ → ℕ → Table → Table → Type 0
-Fails test n k first t = n < first.stripes → k < width first → test (slot_at t n k) ≡ false
+abbrev pub FailsTest : (SlotState → Bool) → ℕ → ℕ → Table → Table → Type 0
+FailsTest test n k first t = n < first.stripes → k < width first → test (slot_at t n k) ≡ false
 
 -- this is the first place at or after one whose slot passes the test
 abbrev pub IsNextOf : (SlotState → Bool) → ℕ → ℕ → Option Place → ℕ → Table → Table → Type 0
@@ -44,7 +44,7 @@ IsNextOf test s c found g first t =
 
 -- at some point it was so
 abbrev pub FailsOnce : (SlotState → Bool) → ℕ → ℕ → ℕ → GroupPasses → GroupPasses → Type 0
-FailsOnce test n k g old new = Once (Fails test n k) g old new
+FailsOnce test n k g old new = Once (FailsTest test n k) g old new
 
 abbrev pub FindsNext : (SlotState → Bool) → ℕ → ℕ → Option Place → ℕ → GroupPasses → GroupPasses
     → Type 0

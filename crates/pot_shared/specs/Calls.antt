@@ -8,7 +8,7 @@ use Rattle.pot_machine.specs.Rules.{IsTable}
 use Rattle.pot_group.specs.declared.finding.Kind.{Kind}
 use Rattle.pot_group.specs.Finding.{IsPlace, is_of}
 use Rattle.pot_group.specs.Group.{GroupView, IsSettled}
-use Rattle.pot_group.specs.Standing.{IsStanding}
+use Rattle.pot_group.specs.Standing.{IsCursorStanding}
 use Rattle.pot_group.specs.declared.standing.Standing.{Standing}
 use Rattle.pot_worked.specs.WroteOnlyFor.{IsTurn}
 use Rattle.pot_rows.specs.Rows.{view_at, with_view}
@@ -65,4 +65,4 @@ NextCall stripe column kind result old new entries =
 -- WHERE A GROUP STANDS
 
 abbrev pub StandingCall : Standing → GroupView → GroupView → List Entry → Type 0
-StandingCall result old new entries = (entries ≡ []) × (new ≡ old) × IsStanding old.table result
+StandingCall result old new entries = (entries ≡ []) × (new ≡ old) × IsCursorStanding old.table result

@@ -36,8 +36,8 @@ abbrev pub AreTold : IndexView → Type 0
 AreTold s = (r : Record) → Contains s.now.published r → Contains s.read r ⊎ Publishes s.log r
 
 -- a pass that has two parts of its turn and never called
-abbrev pub IsKept : GroupPass → Type 0
-IsKept v = (v.parts ≡ 2) × (v.turns ≡ []) × (v.joined ≡ []) × (v.made ≡ 0)
+abbrev pub IsPassKept : GroupPass → Type 0
+IsPassKept v = (v.parts ≡ 2) × (v.turns ≡ []) × (v.joined ≡ []) × (v.made ≡ 0)
 
 -- The kept passes are of all groups, have two parts and never called, and have seen the puts of the
 -- current split of each record that an entry brought; every other record was read. A record that
@@ -45,7 +45,7 @@ IsKept v = (v.parts ≡ 2) × (v.turns ≡ []) × (v.joined ≡ []) × (v.made �
 pub record KeepsSeen (c : CatalogView) : Type 0 where
   pub groups : length c.kept.names ≡ c.index.rack.groups
   pub ready : AreReady c.index.rack c.kept.names c.kept
-  pub kept : (g : ℕ) → g < length c.kept.names → IsKept (view_at c.kept g)
+  pub kept : (g : ℕ) → g < length c.kept.names → IsPassKept (view_at c.kept g)
   pub seen : (r : Record) → Publishes c.index.log r → SeesFile c.kept r
   pub told : AreTold c.index
   pub once : AreFirstSplits c.index.log

@@ -1,6 +1,6 @@
 -- Archives that came to groups, and what they meant when they came.
 use Rattle.std.specs.Prelude.{◌≡◌, ◌^◌, ◌++◌, ℕ, zero, suc, List, [], ◌∷◌, Option, Some, Contains}
-use Rattle.pot_outside.specs.Archives.{Contents, Meaning}
+use Rattle.pot_outside.specs.Archives.{HeldBlocks, Meaning}
 use Rattle.pot_outside.specs.declared.archive.Marks.{Marks}
 use Rattle.pot_machine.specs.declared.entry.Entry.{Entry}
 use Rattle.pot_group.specs.Arrivals.{arrival, arrivals}
@@ -12,12 +12,12 @@ abbrev pub marks_of : Meaning → Marks
 marks_of m = record { faults = m.faults; losses = m.losses }
 
 -- the blocks of the first so many slots
-unfoldable pub first_blocks : ℕ → Contents → List (Option (List ℕ))
+unfoldable pub first_blocks : ℕ → HeldBlocks → List (Option (List ℕ))
 first_blocks zero held = []
 first_blocks (suc n) held = first_blocks n held ++ held n ∷ []
 
 -- and of all: a slot's number has 32 bits
-abbrev pub blocks_of : Contents → List (Option (List ℕ))
+abbrev pub blocks_of : HeldBlocks → List (Option (List ℕ))
 blocks_of held = first_blocks (2 ^ 32) held
 
 -- all that an archive means

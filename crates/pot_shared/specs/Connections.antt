@@ -63,9 +63,9 @@ module _ {A X : Type 0} where
     pub same : bound new ≡ bound old
     pub worked : JobWroteOnly (job_of old) (knows old) (knows new)
 
-  -- a connection for this job to the same vault, whose passes took these parts and know what the old
-  -- ones do
-  pub record IsSplit (job parts : ℕ) (old new : Connection A X) : Type 0 where
+  -- a connection for this job to the same vault, whose passes took these parts and know what the
+  -- old ones do
+  pub record IsConnectionSplit (job parts : ℕ) (old new : Connection A X) : Type 0 where
     pub bound_is : bound new ≡ record { vault = (bound old).vault; job = job }
     pub groups : RowNew parts (knows old).groups (knows new).groups
     pub index : RowNew parts (knows old).index (knows new).index

@@ -7,15 +7,15 @@ use Rattle.pot_shared.specs.Works.{Known}
 
 -- each pass is of the same turn and the same value as before, began at the same log, and has as
 -- many parts
-pub record Stays {E O : Type 0} (old new : PassRow E O) : Type 0 where
+pub record PassesStay {E O : Type 0} (old new : PassRow E O) : Type 0 where
   pub names : new.names ≡ old.names
   pub origin : (at : ℕ) → (view_at new at).origin ≡ (view_at old at).origin
   pub opened : (at : ℕ) → (view_at new at).opened ≡ (view_at old at).opened
   pub parts : (at : ℕ) → (view_at new at).parts ≡ (view_at old at).parts
 
 pub record AllStay (old new : Known) : Type 0 where
-  pub groups : Stays old.groups new.groups
-  pub index : Stays old.index new.index
+  pub groups : PassesStay old.groups new.groups
+  pub index : PassesStay old.index new.index
 
 -- the passes of all turns went on
 pub record AllExtend (old new : Known) : Type 0 where

@@ -10,7 +10,7 @@ use Rattle.pot_machine.specs.declared.entry.Entry.{Entry}
 use Rattle.pot_machine.specs.Table.{Table, archives_in, serving_at, width}
 use Rattle.pot_steps.specs.Stripe.{Sound}
 use Rattle.pot_steps.specs.Holdings.{stripe_of}
-use Rattle.pot_steps.specs.GroupStep.{Breaks, FindsGone, Spared, as_read, opening}
+use Rattle.pot_steps.specs.GroupStep.{BreaksStripe, FindsGone, Spared, as_read, opening}
 use Rattle.pot_index.specs.declared.record.Record.{Record}
 use Rattle.pot_group.specs.Arrivals.{arrivals, HasArrived}
 use Rattle.pot_group.specs.Group.{GroupView, IsSettled}
@@ -132,7 +132,7 @@ pub record IsOpened (meant : ℕ → Meaning) (Rises : ℕ → Type 0) (Often : 
   pub few : (slots : ℕ → ℕ → Bool) → AreMissed meant t gone slots → (n : ℕ)
       → Contains (archives_in t) n → Often n (many_served t slots n)
   pub breaks : (s : ℕ) → s < t.stripes
-      → Breaks t.data_columns t.parity (as_read t read s) (broke s)
+      → BreaksStripe t.data_columns t.parity (as_read t read s) (broke s)
       ⊎ Spared t.data_columns t.parity (as_read t read s) (broke s)
   pub is : log ≡ opening (width t) t.stripes gone broke
 

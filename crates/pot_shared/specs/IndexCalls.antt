@@ -15,7 +15,7 @@ use Rattle.pot_index.specs.Calls.{Reserves, Finds, ListsNames, Renews, published
 use Rattle.pot_index.specs.Ending.{EndsAt}
 use Rattle.pot_index.specs.Entries.{entries, IsReserving}
 use Rattle.pot_index.specs.Fits.{FitsSplit}
-use Rattle.pot_index.specs.Index.{IndexView, IsIndex, IsRecordOf, IsReservedBy, Names, Replays}
+use Rattle.pot_index.specs.Index.{IndexView, IsIndex, IsRecordOf, IsReservedBy, Names, ReplaysIndex}
 use Rattle.pot_index.specs.Index.{names_read}
 use Rattle.pot_index.specs.Records.{renewed}
 use Rattle.pot_turn.specs.declared.name.TurnName.{TurnName}
@@ -55,8 +55,8 @@ abbrev pub ReservesName : ℕ → List ℕ → Result (Unit {0}) ReserveFault �
     → Type 0
 ReservesName job name result s t = Reserves job name s t result
 
-abbrev pub ListsAll : ℕ → Result (Vec Listed Global) ListFault → IndexView → IndexView → Type 0
-ListsAll job result s t = ListsNames job s t result
+abbrev pub ListsIndex : ℕ → Result (Vec Listed Global) ListFault → IndexView → IndexView → Type 0
+ListsIndex job result s t = ListsNames job s t result
 
 -- a record that an entry brought since the index began is one whose puts the passes have seen, and
 -- every other one was read
@@ -96,7 +96,7 @@ MayRenew rack n name split row =
 abbrev pub MayRenewBy : Rack → List ℕ → Split → GroupPasses → IndexPasses → Type 0
 MayRenewBy rack name split row index =
     (n : Names)
-    × Replays rack (names_read (records_in (view_at index 0).origin)) (view_at index 0).seen n
+    × ReplaysIndex rack (names_read (records_in (view_at index 0).origin)) (view_at index 0).seen n
     × MayRenew rack n name split row
 
 abbrev pub RenewsSplit : ℕ → List ℕ → Split → Result (Unit {0}) RenewFault → IndexView → IndexView

@@ -13,7 +13,7 @@ use Rattle.pot_machine.specs.declared.entry.Entry.{Entry}
 use Rattle.pot_machine.specs.Logs.{IsKeptPut}
 use Rattle.pot_machine.specs.Table.{Table}
 use Rattle.pot_group.specs.Group.{GroupView, IsSettled}
-use Rattle.pot_group.specs.Frames.{FailedBy, WrittenBy}
+use Rattle.pot_group.specs.Frames.{FailedBy, Tries, WrittenBy}
 use Rattle.pot_group.specs.Heard.{Sum, FlyBy, FoldedBy, blinds_in}
 use Rattle.pot_execution.specs.Execution.{HasExecution}
 use Rattle.pot_shelves.specs.Shelves.{Shelves}
@@ -72,12 +72,12 @@ RoseOftenInHand {A} meaning hand meant n k =
 -- and each sum that it ever heard its number meant, or it is that of a relay as the log has it. In
 -- each slot in which its number meant a block, a block is seen still, unless a write into that slot
 -- failed, as an entry tells, or its count of losses rose.
-pub record IsWithin (first : Table) (log : List Entry) (s : Shelves) (n : ℕ) (m : Meaning)
-    (givens : List (List ℕ)) : Type 0 where
+pub record IsArchiveFramed (first : Table) (log : List Entry) (tried : Tries) (s : Shelves) (n : ℕ)
+    (m : Meaning) (givens : List (List ℕ)) : Type 0 where
   pub held : (slot : ℕ) (block : List ℕ) → slot < 2 ^ 32 → s.held n slot ≡ Some block
-      → (m.held slot ≡ Some block) ⊎ WrittenBy first log n slot block
+      → (m.held slot ≡ Some block) ⊎ WrittenBy tried 0 first log n slot block
   pub history : (block : List ℕ) → Contains (s.history n) block
-      → Contains m.history block ⊎ ((slot : ℕ) × WrittenBy first log n slot block)
+      → Contains m.history block ⊎ ((slot : ℕ) × WrittenBy tried 0 first log n slot block)
   pub heard : (x : Sum) → Contains (s.heard n) x
       → Contains m.heard x ⊎ FoldedBy first [] log givens n x
   pub kept : (slot : ℕ) (block : List ℕ) → slot < 2 ^ 32 → m.held slot ≡ Some block
@@ -90,7 +90,7 @@ pub record AreWithin (meant : ℕ → Meaning) (g : GroupView) : Type 0 where
   pub are : g.blinds ≡ blinds_in g.log givens
   pub fly : FlyBy g.first [] g.log givens g.flights
   pub each : (n : ℕ) → Contains (had_by g) n
-      → IsWithin g.first g.log g.shelves n (meant n) givens
+      → IsArchiveFramed g.first g.log g.tried g.shelves n (meant n) givens
 
 -- A group that began with this table, and ended with this log and a table that is written so. It
 -- keeps what a group keeps: its log leads from the first table to the last, its stripes keep their
@@ -126,7 +126,7 @@ pub record LeavesRecords (rack : Rack) (read : List Record) (story : List Logged
     (log : List IndexEntry) (written : List Record) : Type 0 where
   pub ended : Names
   pub is_log : log ≡ entries story
-  pub replays : names.Replays rack (names_read read) story ended
+  pub replays : names.ReplaysIndex rack (names_read read) story ended
   pub is : written ≡ ended.published
 
 -- each group's log is what stood before this section and what this section added
@@ -149,7 +149,7 @@ IsPutAt logs p =
 
 -- The logs have a Put at each place of the current split of each record that came to the index. One
 -- that was published has no other split.
-pub record ArePut (logs : List (List Entry)) (story : List Logged) : Type 0 where
+pub record AreRecordsPut (logs : List (List Entry)) (story : List Logged) : Type 0 where
   pub puts : (r : Record) → Publishes story r → (b : ℕ) (p : Place)
       → slice_get r.places b ≡ Some p → IsPutAt logs p
   pub once : AreFirstSplits story
@@ -164,4 +164,4 @@ pub record LeavesLogs (old new : Known) (rack : Rack) (logs : List (List Entry))
   pub records : LeavesRecords rack (records_read new.index) (section_of old new).index_added log
       written
   pub few : length log ≤ log_bound
-  pub put : ArePut logs (section_of old new).index_added
+  pub put : AreRecordsPut logs (section_of old new).index_added

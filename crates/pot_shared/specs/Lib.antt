@@ -17,6 +17,7 @@ pub mod Going
 pub mod Hands
 pub mod Coming
 pub mod Groups
+pub mod Starts
 pub mod Remains
 pub mod Opening
 pub mod Leaving

@@ -4,7 +4,7 @@ use Rattle.std.specs.Vec.{vec_capacity}
 use Rattle.pot_shared.specs.declared.remains.Remains.{Remains}
 
 -- there is no table, no log and no record among them
-pub record IsFresh {A : Type 0} (r : Remains A) : Type 0 where
+pub record AreRemainsFresh {A : Type 0} (r : Remains A) : Type 0 where
   pub tables : r.tables.items ≡ []
   pub logs : r.logs.items ≡ []
   pub records : r.records.items ≡ []
@@ -12,7 +12,7 @@ pub record IsFresh {A : Type 0} (r : Remains A) : Type 0 where
 
 -- and no archive either
 pub record IsBare {A : Type 0} (r : Remains A) : Type 0 where
-  pub fresh : IsFresh r
+  pub fresh : AreRemainsFresh r
   pub hand : r.hand.items ≡ []
 
 -- they have space for the tables and the logs of so many groups, and for so many archives

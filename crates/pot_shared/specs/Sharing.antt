@@ -14,11 +14,11 @@ use Rattle.pot_shared.specs.declared.member.GroupOrigin.{GroupOrigin}
 use Rattle.pot_shared.specs.Members.{kept_log, origin_of as group_origin}
 use Rattle.pot_shared.specs.Ready.{GroupPasses, IsTableOf}
 use Rattle.pot_shared.specs.Seen.{SeesFile}
-use Rattle.pot_shared.specs.Catalogs.{AreFirstSplits, IndexPass, IsKept, Publishes}
+use Rattle.pot_shared.specs.Catalogs.{AreFirstSplits, IndexPass, IsPassKept, Publishes}
 
 -- each pass is as it was
-abbrev pub SameAt : {E O : Type 0} → PassRow E O → PassRow E O → Type 0
-SameAt old new = (at : ℕ) → view_at new at ≡ view_at old at
+abbrev pub SamePasses : {E O : Type 0} → PassRow E O → PassRow E O → Type 0
+SamePasses old new = (at : ℕ) → view_at new at ≡ view_at old at
 
 -- each pass has all parts of its turn but the two of the kept one
 abbrev pub HasAllButKept : GroupPasses → Type 0
@@ -26,11 +26,11 @@ HasAllButKept row = (g : ℕ) → g < length row.names → (view_at row g).parts
 
 -- these passes are those that an index kept
 abbrev pub AreKept : GroupPasses → Type 0
-AreKept row = (g : ℕ) → g < length row.names → IsKept (view_at row g)
+AreKept row = (g : ℕ) → g < length row.names → IsPassKept (view_at row g)
 
 -- A vault ended. The passes took in those that the index kept, one for each group, and each group
 -- and the index are as a turn's close says.
-pub record Ends {A : Type 0} (log_of : A → List Logged) (origin_of_group : A → GroupOrigin)
+pub record EndsVault {A : Type 0} (log_of : A → List Logged) (origin_of_group : A → GroupOrigin)
     (rack : Rack) (names : List TurnName) (groups : GroupPasses)
     (index : IndexPass) (members : List A) (ended : IndexView) : Type 0 where
   pub kept : GroupPasses
@@ -48,12 +48,12 @@ pub record Ends {A : Type 0} (log_of : A → List Logged) (origin_of_group : A �
       index
 
 -- a group of the rack, of this number
-abbrev pub IsGroupOf : Rack → ℕ → GroupView → Type 0
-IsGroupOf rack number g = (g.number ≡ number) × IsTableOf rack g.first
+abbrev pub IsRackGroup : Rack → ℕ → GroupView → Type 0
+IsRackGroup rack number g = (g.number ≡ number) × IsTableOf rack g.first
 
 -- The first passes of these groups, each of which has seen its group's log and has all parts but
 -- the two that the index keeps.
-abbrev pub AreFirst : {M : Type 0} → (M → GroupView) → List M → GroupPasses → Type 0
-AreFirst {M} see members row =
+abbrev pub AreFirstGroupPasses : {M : Type 0} → (M → GroupView) → List M → GroupPasses → Type 0
+AreFirstGroupPasses {M} see members row =
     (n : ℕ) (m : M) → slice_get members n ≡ Some m
     → view_at row n ≡ cut_view 2 (first_view (kept_log (see m)) (group_origin (see m)))

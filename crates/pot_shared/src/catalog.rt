@@ -133,8 +133,8 @@ impl<A: Archive> Catalog<A> {
         Ok(())
     }
 
-    /// Publishes a record of one split whose puts the caller has seen, as `Index::publish`. The kept passes have
-    /// then seen them too.
+    /// Publishes a record of one split whose puts the caller has seen, as `Index::publish`. The
+    /// kept passes have then seen them too.
     ///
     /// # Errors
     /// `ReservationLost` exactly where the name is not reserved by the job.

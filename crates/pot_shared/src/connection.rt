@@ -40,8 +40,8 @@ impl<'v, A: Archive, R> Connection<'v, A, R> {
     ghost use Rattle.std.specs.Prelude.{◌+◌, IfOk, IfErr};
     ghost use Rattle.pot_rows.specs.Parts.{RowCut};
     ghost use Rattle.pot_shared.specs.Callers.{CanCall, HaveParts};
-    ghost use Rattle.pot_shared.specs.Sharing.{SameAt};
-    ghost use Rattle.pot_shared.specs.Connections.{IsSplit, bound, knows, rack_of};
+    ghost use Rattle.pot_shared.specs.Sharing.{SamePasses};
+    ghost use Rattle.pot_shared.specs.Connections.{IsConnectionSplit, bound, knows, rack_of};
 
     /// A connection of this job to a vault, with these passes, which `end` hands out again.
     pub fn new(
@@ -93,11 +93,12 @@ impl<'v, A: Archive, R> Connection<'v, A, R> {
         requires some { 1 < parts }
         requires parts { HaveParts (parts + 1) (knows self.old) }
         ensures same { bound self.new ≡ bound self.old }
-        ensures given { IfOk result (IsSplit job parts self.old) }
+        ensures given { IfOk result (IsConnectionSplit job parts self.old) }
         ensures left { IfOk result (λ s. RowCut parts (knows self.old).groups (knows self.new).groups
             × RowCut parts (knows self.old).index (knows self.new).index) }
-        ensures refused { IfErr result (λ e. SameAt (knows self.old).groups (knows self.new).groups
-            × SameAt (knows self.old).index (knows self.new).index) }
+        ensures refused { IfErr result (λ e. SamePasses (knows self.old).groups
+            (knows self.new).groups
+            × SamePasses (knows self.old).index (knows self.new).index) }
     {
         let (rt, alloc, vault) = (self.rt, self.alloc, self.vault);
         match vault.split(alloc, &mut self.passes, parts) {

@@ -21,7 +21,7 @@ impl<A: Archive> Vault<A> {
     ghost use Rattle.pot_shared.specs.Members.{kept_log, origin_of};
     ghost use Rattle.pot_shared.specs.Ready.{AreReady};
     ghost use Rattle.pot_shared.specs.Catalogs.{IsIndexReady};
-    ghost use Rattle.pot_shared.specs.Sharing.{HasAllButKept, Ends};
+    ghost use Rattle.pot_shared.specs.Sharing.{HasAllButKept, EndsVault};
 
     /// Ends the turns with passes that have all parts but those of the kept ones, and hands out the
     /// groups and the index. It takes no memory, since the spaces that `start` made have room.
@@ -30,7 +30,7 @@ impl<A: Archive> Vault<A> {
         requires index { IsIndexReady self.rack self.groups self.index passes.index }
         requires parts { HasAllButKept passes.groups × HasAllParts passes.index }
         requires room { length self.groups ≤ spaces }
-        ensures { Ends (λ m. kept_log (view_of A.account.meaning m.group))
+        ensures { EndsVault (λ m. kept_log (view_of A.account.meaning m.group))
             (λ m. origin_of (view_of A.account.meaning m.group)) self.rack self.groups passes.groups
             (view_at passes.index 0) result.members.items result.index }
     {

@@ -58,16 +58,16 @@ fn move_front<T>(from: &mut Vec<T>, into: &mut Vec<T>, count: usize)
     }
 }
 
-/// Puts shelves behind those in the hand, which has room for them.
-pub(crate) fn put_back<A: Archive>(hand: &mut Vec<Shelf<A>>, shelves: Vec<Shelf<A>>)
-    requires { length hand.old.items + length shelves.items ≤ vec_capacity hand.old }
-    ensures items { hand.new.items ≡ hand.old.items ++ shelves.items }
-    ensures space { vec_capacity hand.new ≡ vec_capacity hand.old }
+/// Puts elements back behind others, which have room for them.
+pub(crate) fn put_back<T>(into: &mut Vec<T>, back: Vec<T>)
+    requires { length into.old.items + length back.items ≤ vec_capacity into.old }
+    ensures items { into.new.items ≡ into.old.items ++ back.items }
+    ensures space { vec_capacity into.new ≡ vec_capacity into.old }
 {
-    let mut shelves = shelves;
-    let count = shelves.len();
-    move_front(&mut shelves, hand, count);
-    shelves.destroy_empty();
+    let mut back = back;
+    let count = back.len();
+    move_front(&mut back, into, count);
+    back.destroy_empty();
 }
 
 /// Takes the archives of a table, which are the first shelves, out of the hand.
@@ -81,6 +81,7 @@ pub(crate) fn take_shelves<A: Archive>(
         (λ v. v.items ≡ take (length (archives_in table.now)) hand.old.items) }
     ensures rest { OnOk result
         (hand.new.items ≡ drop (length (archives_in table.now)) hand.old.items) }
+    ensures own { IfOk result (λ v. length v.items ≤ vec_capacity v) }
     ensures refused { OnErr result (hand.new.items ≡ hand.old.items) }
     ensures space { vec_capacity hand.new ≡ vec_capacity hand.old }
 {

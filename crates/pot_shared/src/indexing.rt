@@ -16,7 +16,7 @@ impl<A: Archive> Vault<A> {
     ghost use Rattle.pot_shared.specs.Ready.{AreReady};
     ghost use Rattle.pot_shared.specs.Seen.{RowKnowsMore, SeesFile};
     ghost use Rattle.pot_shared.specs.Catalogs.{IsIndexReady};
-    ghost use Rattle.pot_shared.specs.IndexCalls.{IndexCall, HasReserved, ReservesName, ListsAll};
+    ghost use Rattle.pot_shared.specs.IndexCalls.{IndexCall, HasReserved, ReservesName, ListsIndex};
     ghost use Rattle.pot_shared.specs.IndexCalls.{FindsRecord, Abandons, PublishesRecord};
     ghost use Rattle.pot_shared.specs.IndexCalls.{MayRenewBy, RenewsSplit};
 
@@ -55,7 +55,7 @@ impl<A: Archive> Vault<A> {
             passes.old.index }
         ensures index { IsIndexReady self.now.rack self.now.groups self.now.index passes.new.index }
         ensures groups { passes.new.groups ≡ passes.old.groups }
-        ensures call { IndexCall (ListsAll job result) passes.old.index passes.new.index }
+        ensures call { IndexCall (ListsIndex job result) passes.old.index passes.new.index }
     {
         let mut catalog = self.index.enter(rt, &mut passes.index, 0);
         catalog.rules();
@@ -187,7 +187,7 @@ impl<A: Archive> Vault<A> {
 
 impl<'v, A: Archive, R: Wait> Connection<'v, A, R> {
     ghost use Rattle.pot_shared.specs.Seen.{SeesFile};
-    ghost use Rattle.pot_shared.specs.IndexCalls.{IndexCall, HasReserved, ReservesName, ListsAll};
+    ghost use Rattle.pot_shared.specs.IndexCalls.{IndexCall, HasReserved, ReservesName, ListsIndex};
     ghost use Rattle.pot_shared.specs.IndexCalls.{FindsRecord, Abandons, PublishesRecord};
     ghost use Rattle.pot_shared.specs.IndexCalls.{MayRenewBy, RenewsSplit};
     ghost use Rattle.pot_shared.specs.Connections.{InIndex, InTied, job_of, knows, rack_of};
@@ -202,7 +202,7 @@ impl<'v, A: Archive, R: Wait> Connection<'v, A, R> {
 
     /// Lists the published names, as `Vault::names`.
     pub fn names(&mut self) -> Result<Vec<Listed>, ListFault>
-        ensures { InIndex (λ b. IndexCall (ListsAll b.job result)) self.old self.new }
+        ensures { InIndex (λ b. IndexCall (ListsIndex b.job result)) self.old self.new }
     {
         let (rt, vault, job) = (self.rt, self.vault, self.job);
         vault.names(rt, self.alloc, &mut self.passes, job)

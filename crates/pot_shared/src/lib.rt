@@ -10,13 +10,15 @@
 //! value (`Remains`): the tables and logs of its groups, the records and the log of its index, and
 //! all archives (`Vault::end`).
 //!
-//! It reads no script and starts no thread. It promises no progress, as `pot_turn`.
+//! It reads no script, and starts threads only where a vault is opened. It promises no progress, as
+//! `pot_turn`.
 #![tactic(auto)]
 
 mod caller;
 mod catalog;
 mod connection;
 mod ending;
+mod group_start;
 mod grouping;
 mod hand;
 mod indexing;
@@ -36,6 +38,7 @@ pub use caller::Caller;
 pub use catalog::{Catalog, CatalogOrigin, ReservationLost};
 pub use connection::Connection;
 pub use ending::Closed;
+pub use group_start::Openers;
 pub use hand::numbers_in;
 pub use member::{GroupOrigin, Logged, Member, Taking};
 pub use mending::Mending;

@@ -11,7 +11,7 @@ use std::alloc::Global;
 impl<A: Archive> Vault<A> {
     ghost use Rattle.pot_shared.specs.Ready.{AreReady};
     ghost use Rattle.pot_shared.specs.Catalogs.{IsIndexReady};
-    ghost use Rattle.pot_shared.specs.Sharing.{SameAt};
+    ghost use Rattle.pot_shared.specs.Sharing.{SamePasses};
 
     /// Passes for one more job. Each has seen what the old one of its turn has, and takes these
     /// parts of it.
@@ -44,8 +44,8 @@ impl<A: Archive> Vault<A> {
             × IsIndexReady self.now.rack self.now.groups self.now.index p.index) }
         ensures refused { IfErr result
             (λ _.
-            SameAt passes.old.groups passes.new.groups
-            × SameAt passes.old.index passes.new.index) }
+            SamePasses passes.old.groups passes.new.groups
+            × SamePasses passes.old.index passes.new.index) }
     {
         let index = self.index.split(alloc, &mut passes.index, parts)?;
         match self.groups.split(alloc, &mut passes.groups, parts) {

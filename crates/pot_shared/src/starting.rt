@@ -7,7 +7,7 @@ ghost use Rattle.pot_rows.specs.Parts.{RowCut};
 ghost use Rattle.pot_rows.specs.Rows.{AreOf, HasMoreParts};
 ghost use Rattle.pot_group.specs.Group.{view_of};
 ghost use Rattle.pot_shared.specs.Ready.{AreReady};
-ghost use Rattle.pot_shared.specs.Sharing.{SameAt};
+ghost use Rattle.pot_shared.specs.Sharing.{SamePasses};
 
 use crate::catalog::Catalog;
 use crate::member::Member;
@@ -51,7 +51,7 @@ fn share_index<A: Archive>(
         ≡ first_view []
         (record { rack = rack.now; read = index.read; names = groups.now.names })
         ∷ [])) }
-    ensures refused { IfErr result (λ i. (i ≡ index) × SameAt passes.old passes.new) }
+    ensures refused { IfErr result (λ i. (i ≡ index) × SamePasses passes.old passes.new) }
     ensures room { (catalogs.new.items ≡ [])
         × (vec_capacity catalogs.new ≡ vec_capacity catalogs.old) }
 {
@@ -76,7 +76,7 @@ fn share_index<A: Archive>(
 
 impl<A: Archive> Vault<A> {
     ghost use Rattle.pot_shared.specs.Catalogs.{IsIndexReady};
-    ghost use Rattle.pot_shared.specs.Sharing.{HasAllButKept, IsGroupOf, AreFirst};
+    ghost use Rattle.pot_shared.specs.Sharing.{HasAllButKept, IsRackGroup, AreFirstGroupPasses};
 
     /// Puts each group and the index under a turn. The passes have seen all logs, and have all
     /// parts of the index's turn and all but two of each group's, which the index keeps. The group
@@ -92,7 +92,7 @@ impl<A: Archive> Vault<A> {
     ) -> Result<(Vault<A>, Passes<A>, Spaces<A>), VaultRefused<A>>
         requires count { length members.items ≡ rack.now.groups }
         requires groups { (n : ℕ) (m : _) → slice_get members.items n ≡ Some m
-            → IsGroupOf rack.now n (view_of A.account.meaning m.group) }
+            → IsRackGroup rack.now n (view_of A.account.meaning m.group) }
         requires rack { index.rack ≡ rack.now }
         requires log { index.log ≡ [] }
         ensures rack { IfOk result (λ p. p.0.rack ≡ rack.now) }
@@ -103,7 +103,8 @@ impl<A: Archive> Vault<A> {
             × IsIndexReady rack.now p.0.groups p.0.index p.1.index) }
         ensures parts { IfOk result (λ p. HasAllButKept p.1.groups × HasAllParts p.1.index) }
         ensures first { IfOk result
-            (λ p. AreFirst (λ m. view_of A.account.meaning m.group) members.items p.1.groups) }
+            (λ p. AreFirstGroupPasses (λ m. view_of A.account.meaning m.group) members.items
+            p.1.groups) }
         ensures index { IfOk result
             (λ p.
             p.1.index.views

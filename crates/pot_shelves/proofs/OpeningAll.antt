@@ -17,7 +17,7 @@ use Rattle.pot_machine.specs.Rules.{IsTable}
 use Rattle.pot_machine.proofs.Logs.{replays_append}
 use Rattle.pot_steps.specs.Stripe.{Stripe, Sound}
 use Rattle.pot_steps.specs.Holdings.{stripe_of}
-use Rattle.pot_steps.specs.GroupStep.{FindsGone, Breaks, Spared, as_read, entries_where, opening}
+use Rattle.pot_steps.specs.GroupStep.{FindsGone, BreaksStripe, Spared, as_read, entries_where, opening}
 use Rattle.pot_shelves.specs.declared.opening.Shortage.{Shortage}
 use Rattle.pot_shelves.specs.declared.filling.Breaking.{Breaking}
 use Rattle.pot_shelves.specs.declared.filling.Breaking.TheVariants as breaking
@@ -77,7 +77,7 @@ module _ (told : Type 0) (s : ℕ) (t u : Table) (before mid : List Entry) (shor
 
   module _ (x : Breaking) (broken : IsBroken t.data_columns t.parity shortage p q x) where
     abbrev Ends : Type 0
-    Ends = IsOrdered t.data_columns t.parity x × (Breaks t.data_columns t.parity was_read (breaks_at x) ⊎ Spared t.data_columns t.parity was_read (breaks_at x))
+    Ends = IsOrdered t.data_columns t.parity x × (BreaksStripe t.data_columns t.parity was_read (breaks_at x) ⊎ Spared t.data_columns t.parity was_read (breaks_at x))
 
     ends : Ends
     ends = outcome t.data_columns t.parity rules.size.data_columns.1 rules.size.parity.0 rules.size.parity.1 was_read p q o.lives o.adds shortage x o.short broken
@@ -240,7 +240,7 @@ module _ (told : Type 0) (n : ℕ) (t u v : Table) (mid now : List Entry) (a b c
   ]
 
   abbrev Decided : Stripe → (ℕ → Bool) → Type 0
-  Decided r test = Breaks t.data_columns t.parity r test ⊎ Spared t.data_columns t.parity r test
+  Decided r test = BreaksStripe t.data_columns t.parity r test ⊎ Spared t.data_columns t.parity r test
 
   columns' : u.data_columns ≡ t.data_columns
   columns' = ap {A = Table} (λ x. x.data_columns) l.shape
@@ -254,8 +254,8 @@ module _ (told : Type 0) (n : ℕ) (t u v : Table) (mid now : List Entry) (a b c
         (subst (λ f. Decided (reading (λ k. slot_at t n k) f) (broke' n)) (sym (at_here n o.read x.read))
         (subst (λ g. Decided (reading (λ k. slot_at t n k) x.read) g) (sym (at_here n o.broke x.broke))
         (breaks_moved t.data_columns t.parity (λ k. slot_at u n k) (λ k. slot_at t n k) x.read here x.broke
-        (subst (λ m. Breaks m t.parity (reading (λ k. slot_at u n k) x.read) x.broke ⊎ Spared m t.parity (reading (λ k. slot_at u n k) x.read) x.broke) columns'
-        (subst (λ m. Breaks u.data_columns m (reading (λ k. slot_at u n k) x.read) x.broke ⊎ Spared u.data_columns m (reading (λ k. slot_at u n k) x.read) x.broke) parity' x.breaks)))))
+        (subst (λ m. BreaksStripe m t.parity (reading (λ k. slot_at u n k) x.read) x.broke ⊎ Spared m t.parity (reading (λ k. slot_at u n k) x.read) x.broke) columns'
+        (subst (λ m. BreaksStripe u.data_columns m (reading (λ k. slot_at u n k) x.read) x.broke ⊎ Spared u.data_columns m (reading (λ k. slot_at u n k) x.read) x.broke) parity' x.breaks)))))
     | inr lt ↦ subst (λ f. Decided (reading (λ k. slot_at t s k) f) (broke' s)) (sym (at_below n o.read x.read s lt))
         (subst (λ g. Decided (reading (λ k. slot_at t s k) (o.read s)) g) (sym (at_below n o.broke x.broke s lt)) (o.breaks s lt))
   ]

@@ -20,7 +20,7 @@ use Rattle.pot_shelves.specs.declared.opening.Part.{Part}
 use Rattle.pot_shelves.specs.declared.opening.Part.TheVariants as part
 use Rattle.pot_shelves.specs.declared.opening.Shortage.{Shortage}
 use Rattle.pot_shelves.specs.declared.opening.Shortage.TheVariants.{Nothing}
-use Rattle.pot_shelves.specs.Shelves.{Shelves, Stays}
+use Rattle.pot_shelves.specs.Shelves.{Shelves, ShelvesStay}
 use Rattle.pot_shelves.specs.Opening.{FailedSo, ChangesStripe, IsPart, block_of, is_missing, gone_entry, OpensSlot, OpensColumns, short_by, first_by, second_by}
 use Rattle.pot_shelves.proofs.ShelfLemmas.{stays_refl, stays_then}
 use Rattle.pot_shelves.proofs.OpeningStripe.{sound_same, find_more, short_more, lives_more, sums_more, sums_none}
@@ -28,10 +28,10 @@ use Rattle.pot_shelves.proofs.OpeningLogs.{with_at, at_here, at_below, entries_b
 
 -- WHAT THE ARCHIVES DO MEANWHILE
 
-pub failed_none : (told : Type 0) (a b : Shelves) (number : ℕ) → Stays told a b → FailedSo a b number 0
+pub failed_none : (told : Type 0) (a b : Shelves) (number : ℕ) → ShelvesStay told a b → FailedSo a b number 0
 failed_none told a b number s = inr (let x : a.faults number ≤ b.faults number = s.keeps.later number in omega arith)
 
-pub failed_then : (told : Type 0) (a b c : Shelves) (number x y : ℕ) → Stays told b c → FailedSo a b number x → FailedSo b c number y → FailedSo a c number (x + y)
+pub failed_then : (told : Type 0) (a b c : Shelves) (number x y : ℕ) → ShelvesStay told b c → FailedSo a b number x → FailedSo b c number y → FailedSo a c number (x + y)
 failed_then told a b c number x y s (inl p) q = inl (let l : b.faults number ≤ c.faults number = s.keeps.later number in omega arith)
 failed_then told a b c number x y s (inr p) (inl q) = inl q
 failed_then told a b c number x y s (inr p) (inr q) = inr (omega arith)
@@ -116,7 +116,7 @@ columns_length told n s t u before mid shortage first second a b o =
     omega arith
 
 -- a slot that is sound now was sound before blocks were lost
-pub sound_before : (told : Type 0) (t : Table) (s c : ℕ) (a b : Shelves) → Stays told a b → told → Sound (stripe_of t b.held s) c → Sound (stripe_of t a.held s) c
+pub sound_before : (told : Type 0) (t : Table) (s c : ℕ) (a b : Shelves) → ShelvesStay told a b → told → Sound (stripe_of t b.held s) c → Sound (stripe_of t a.held s) c
 sound_before told t s c a b h z x = (x.0, record { digest = x.1.digest; live = x.1.live; held = (h.loses z (serving_at t s c)).keeps s x.0 x.1.held; right = x.1.right })
 
 module _ (told : Type 0) (n s : ℕ) (t u v : Table) (before mid now : List Entry) (shortage : Shortage) (first second first' second' : List ℕ) (p : Part) (into : List ℕ) (a b c : Shelves)
@@ -143,7 +143,7 @@ module _ (told : Type 0) (n s : ℕ) (t u v : Table) (before mid now : List Entr
   is_here : IsPart (slot_at t s n) into p
   is_here = subst (λ z. IsPart z into p) slot_same x.is
 
-  stays' : Stays told a c
+  stays' : ShelvesStay told a c
   stays' = stays_then told a b c o.stays x.stays
 
   missing' : told → (k : ℕ) → k < suc n → gone' k ≡ true → failed' k ≡ false → Sound (stripe_of t c.held s) k → ⊥

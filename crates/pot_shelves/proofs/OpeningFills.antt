@@ -25,8 +25,8 @@ use Rattle.pot_steps.specs.Flight.{weight, p_times, q_times}
 use Rattle.pot_bytes.specs.Digests.{digest_of}
 use Rattle.pot_steps.specs.Stripe.{Stripe, IsSound, Sound, NoneBroken, Filling, HasFilling}
 use Rattle.pot_steps.specs.Law.{IsRead, FindsUnsound, FewUnsound}
-use Rattle.pot_steps.specs.Decides.{Computed, AreRead, Serves}
-use Rattle.pot_steps.specs.GroupStep.{Breaks, Spared}
+use Rattle.pot_steps.specs.Decides.{Computed, IsStripeRead, StandsForSlot}
+use Rattle.pot_steps.specs.GroupStep.{BreaksStripe, Spared}
 use Rattle.pot_steps.proofs.BlockLemmas.{IsBlock-zero_block, IsBlock-xor, IsBlock-scaled, get_or-zero_block, same_blocks}
 use Rattle.pot_steps.proofs.Decides.{filling_computed, made, made_filling, read_serves, left_in, left_out_of}
 use Rattle.pot_steps.proofs.Rebuilt.{combined}
@@ -235,8 +235,8 @@ module _ (data_columns parity : ℕ) (small : data_columns ≤ 16) (one : 1 ≤ 
           ∙ ap (λ z. bit_xor z (get_or (base t) k 0)) (part_bytes k ∙ but_itself k) ∙ xor_cancel (total (data_columns + parity) (rest k)) (get_or (base t) k 0);
     }
 
-    suit_serves : (o : Option Digest) → IsSide s t o → Suits o part → Serves s t (xor part (base t))
-    suit_serves None w e = subst (λ x. Serves s t x) (sym (xor_zeros part (base t) part_block (sums.blocks t t_in) e)) (read_serves s t (base t) (well_read t t_in w).1)
+    suit_serves : (o : Option Digest) → IsSide s t o → Suits o part → StandsForSlot s t (xor part (base t))
+    suit_serves None w e = subst (λ x. StandsForSlot s t x) (sym (xor_zeros part (base t) part_block (sums.blocks t t_in) e)) (read_serves s t (base t) (well_read t t_in w).1)
     suit_serves (Some d) a e = record {
       void = λ v. absurd ((absent_unwell s t d a).0 v);
       digest = λ x h. ap digest_of (xor_with_zeros part (base t) part_block (sums.blocks t t_in) (absent_zero t d t_in a)) ∙ e ∙ same_Some d x (sym (taken_digest (s.slots t) d a.0) ∙ h);
@@ -251,10 +251,10 @@ module _ (data_columns parity : ℕ) (small : data_columns ≤ 16) (one : 1 ≤ 
   -- two columns that decide
   module _ (t u : ℕ) (o o2 : Option Digest) (t_in : t < data_columns + parity) (u_le : u ≤ suc data_columns) (apart : u ≢ t) (single : parity ≡ 1 → data_columns < u)
       (at_t : IsSide s t o) (at_u : parity ≢ 1 → IsSide s u o2) (others : (c : ℕ) → c < data_columns + parity → c ≢ t → c ≢ u → IsWell s c) where
-    read : AreRead data_columns parity s t u base
+    read : IsStripeRead data_columns parity s t u base
     read c lt nt nu = well_read c lt (others c lt nt nu)
 
-    back : AreRead data_columns parity s u t base
+    back : IsStripeRead data_columns parity s u t base
     back c lt nu nt = read c lt nt nu
 
     not_single : parity ≡ 2 → parity ≢ 1
@@ -281,10 +281,10 @@ module _ (data_columns parity : ℕ) (small : data_columns ≤ 16) (one : 1 ≤ 
     u_computed : parity ≡ 2 → Computed data_columns parity u t base (xor (residue data_columns parity u t p q) (base u))
     u_computed two = computed u t (u_in two) le_t (λ e. apart (sym e)) (other_way two)
 
-    t_serves : Adds → Serves s t (xor (residue data_columns parity t u p q) (base t))
+    t_serves : Adds → StandsForSlot s t (xor (residue data_columns parity t u p q) (base t))
     t_serves a = suit_serves t u t_in u_le apart single o at_t a.0
 
-    u_serves : Adds → parity ≡ 2 → Serves s u (xor (residue data_columns parity u t p q) (base u))
+    u_serves : Adds → parity ≡ 2 → StandsForSlot s u (xor (residue data_columns parity u t p q) (base u))
     u_serves a two = suit_serves u t (u_in two) le_t (λ e. apart (sym e)) (other_way two) o2 (at_u (not_single two)) (a.1 (not_single two))
 
     fills : Adds → HasFilling data_columns parity s
@@ -303,7 +303,7 @@ module _ (data_columns parity : ℕ) (small : data_columns ≤ 16) (one : 1 ≤ 
 
   -- WHICH SLOTS BREAK
 
-  -- what decides, and what else `Breaks` asks for
+  -- what decides, and what else `BreaksStripe` asks for
   record Decided (tr : Trial) : Type 0 where
     fills : AddsUp data_columns parity tr p q → HasFilling data_columns parity s
     adds : HasFilling data_columns parity s → AddsUp data_columns parity tr p q
@@ -443,7 +443,7 @@ module _ (data_columns parity : ℕ) (small : data_columns ≤ 16) (one : 1 ≤ 
           omega (arith, few, l, m)
 
   abbrev Outcome : Breaking → Type 0
-  Outcome b = IsOrdered data_columns parity b × (Breaks data_columns parity s (breaks_at b) ⊎ Spared data_columns parity s (breaks_at b))
+  Outcome b = IsOrdered data_columns parity b × (BreaksStripe data_columns parity s (breaks_at b) ⊎ Spared data_columns parity s (breaks_at b))
 
   undecided : (b : Breaking) → b ≡ breaking.Nothing → Spared data_columns parity s (λ c. false) → Outcome b
   undecided b e x = subst Outcome (sym e) (tt, inr x)
@@ -477,7 +477,7 @@ void_filled data_columns parity s void = (
   },
 )
 
-pub takes_broke : (data_columns parity : ℕ) (s : Stripe) (test : ℕ → Bool) → Breaks data_columns parity s test
+pub takes_broke : (data_columns parity : ℕ) (s : Stripe) (test : ℕ → Bool) → BreaksStripe data_columns parity s test
     → ((c : ℕ) → c < data_columns + parity → data_columns ≤ c → s.slots c ≡ Void → (k : ℕ) → k < data_columns + parity → s.slots k ≡ Void)
     → (c : ℕ) → c < data_columns + parity → test c ≡ true → IsTrue (is_live (s.slots c)) ⊎ IsTrue (is_lost (s.slots c))
 takes_broke data_columns parity s test b void c lt e = elim b.which [

@@ -21,7 +21,7 @@ use Rattle.pot_steps.specs.Equations.{p_weight, q_weight}
 use Rattle.pot_bytes.specs.Digests.{digest_of}
 use Rattle.pot_steps.specs.Stripe.{Stripe, Sound, HasFilling}
 use Rattle.pot_steps.specs.Law.{FindsUnsound}
-use Rattle.pot_steps.specs.GroupStep.{FindsGone, Breaks, Spared}
+use Rattle.pot_steps.specs.GroupStep.{FindsGone, BreaksStripe, Spared}
 use Rattle.pot_steps.proofs.BlockLemmas.{IsBlock-zero_block, IsBlock-xor, IsBlock-scaled, get_or-zero_block}
 use Rattle.pot_steps.proofs.Steps.{filling_stays}
 use Rattle.pot_shelves.specs.declared.opening.Part.{Part}
@@ -317,7 +317,7 @@ module _ (data_columns parity : ℕ) (slots slots' : ℕ → SlotState) (read : 
     λ w. (f c lt).1 (unwell_same (reading slots read) (reading slots' read) c (e c lt) refl w),
   )
 
-  breaks_there : (test : ℕ → Bool) → Breaks data_columns parity (reading slots read) test → Breaks data_columns parity (reading slots' read) test
+  breaks_there : (test : ℕ → Bool) → BreaksStripe data_columns parity (reading slots read) test → BreaksStripe data_columns parity (reading slots' read) test
   breaks_there test b = record {
     none_broken = λ c d lt x. b.none_broken c d lt (here c lt ∙ x);
     no_filling = λ f. b.no_filling (filling_here f);
@@ -337,7 +337,7 @@ module _ (data_columns parity : ℕ) (slots slots' : ℕ → SlotState) (read : 
     ];
   }
 
-  pub breaks_moved : (test : ℕ → Bool) → Breaks data_columns parity (reading slots read) test ⊎ Spared data_columns parity (reading slots read) test
-      → Breaks data_columns parity (reading slots' read) test ⊎ Spared data_columns parity (reading slots' read) test
+  pub breaks_moved : (test : ℕ → Bool) → BreaksStripe data_columns parity (reading slots read) test ⊎ Spared data_columns parity (reading slots read) test
+      → BreaksStripe data_columns parity (reading slots' read) test ⊎ Spared data_columns parity (reading slots' read) test
   breaks_moved test (inl b) = inl (breaks_there test b)
   breaks_moved test (inr b) = inr (spared_there test b)

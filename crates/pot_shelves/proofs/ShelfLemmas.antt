@@ -8,7 +8,7 @@ use Rattle.pot_outside.specs.Archives.{OnlyLoses, at_slot}
 use Rattle.pot_outside.specs.Counts.{Rose}
 use Rattle.pot_outside.proofs.LossLemmas.{at_slot-here, at_slot-else, loses_nothing, loses_more, loses_under}
 use Rattle.pot_steps.specs.Holdings.{Holdings}
-use Rattle.pot_shelves.specs.Shelves.{Shelves, Keeps, LosesByCount, Stays, WritesInto, WriteLeaves, put_at}
+use Rattle.pot_shelves.specs.Shelves.{Shelves, Keeps, LosesByCount, ShelvesStay, WritesInto, WriteLeaves, put_at}
 
 -- ONE CALL AFTER ANOTHER
 
@@ -40,10 +40,10 @@ loses_refl s = λ n. loses_nothing (s.held n) (s.losses n)
 pub loses_from_then : (h : Holdings) (a b c : Shelves) → LosesByCount h a b → LosesByCount b.held b c → LosesByCount h a c
 loses_from_then h a b c o p = λ n. loses_more (h n) (b.held n) (c.held n) (a.losses n) (b.losses n) (c.losses n) (o n) (p n)
 
-pub stays_refl : (told : Type 0) (s : Shelves) → Stays told s s
+pub stays_refl : (told : Type 0) (s : Shelves) → ShelvesStay told s s
 stays_refl told s = record { keeps = keeps_refl s; loses = (λ t. loses_refl s); heard = (λ t n. refl); history = (λ t n. refl) }
 
-pub stays_then : (told : Type 0) (a b c : Shelves) → Stays told a b → Stays told b c → Stays told a c
+pub stays_then : (told : Type 0) (a b c : Shelves) → ShelvesStay told a b → ShelvesStay told b c → ShelvesStay told a c
 stays_then told a b c o p = record {
   keeps = keeps_then a b c o.keeps p.keeps;
   loses = (λ t. loses_from_then a.held a b c (o.loses t) (p.loses t));

@@ -26,7 +26,7 @@ use Rattle.pot_shelves.specs.declared.slots.Reading.{Reading}
 use Rattle.pot_shelves.specs.declared.opening.Part.{Part}
 use Rattle.pot_shelves.specs.declared.opening.Part.TheVariants as part
 use Rattle.pot_shelves.specs.declared.opening.Shortage.{Shortage}
-use Rattle.pot_shelves.specs.Shelves.{Shelves, Stays}
+use Rattle.pot_shelves.specs.Shelves.{Shelves, ShelvesStay}
 use Rattle.pot_shelves.specs.Opening.{HasArchives, FailedSo, IsPart, is_held, AnswerMeans, ReadsSlot, ReadsColumns, AreDigests, is_missing, OpensSlot, OpensColumns}
 use Rattle.pot_shelves.proofs.ShelfLemmas.{stays_refl, stays_then}
 use Rattle.pot_shelves.proofs.OpeningLogs.{with_at, at_here, at_below}
@@ -78,13 +78,13 @@ reads_more told n s t readings r a b c o x = record {
         (subst (λ c. ReadsSlot told s k t q (o.at k) c) (sym (at_below (suc n) o.at c (suc k) (omega (arith, lt)))) (o.reads k q lt e))
 
 -- reads change nothing but by losses
-reads_stays : (told : Type 0) (n s : ℕ) (t : Table) (readings : List Reading) (a b : Shelves) → n ≤ 20 → ReadsColumns told n s t readings a b → Stays told a b
-reads_stays told n s t readings a b le o = subst (λ a. Stays told a b) o.begins (subst (λ b. Stays told (o.at 0) b) o.ends (upto n (omega arith)))
+reads_stays : (told : Type 0) (n s : ℕ) (t : Table) (readings : List Reading) (a b : Shelves) → n ≤ 20 → ReadsColumns told n s t readings a b → ShelvesStay told a b
+reads_stays told n s t readings a b le o = subst (λ a. ShelvesStay told a b) o.begins (subst (λ b. ShelvesStay told (o.at 0) b) o.ends (upto n (omega arith)))
   where
-    one : (k : ℕ) → k < n → Stays told (o.at k) (o.at (suc k))
+    one : (k : ℕ) → k < n → ShelvesStay told (o.at k) (o.at (suc k))
     one k lt = let (r, e) = element_at readings k (omega (arith, lt, le, o.places)) in (o.reads k r lt e).stays
 
-    upto : (k : ℕ) → k ≤ n → Stays told (o.at 0) (o.at k)
+    upto : (k : ℕ) → k ≤ n → ShelvesStay told (o.at 0) (o.at k)
     upto zero le = stays_refl told (o.at 0)
     upto (suc k) le = stays_then told (o.at 0) (o.at k) (o.at (suc k)) (upto k (omega (arith, le))) (one k (omega (arith, le)))
 
@@ -178,7 +178,7 @@ not_there told number s block d (Some (Ok Absent)) a b m w z f other h q = none-
 not_there told number s block d (Some (Err e)) a b m w z f other h q = false≢true (sym f)
 
 -- the archive failed where the read did
-read_failed : (told : Type 0) (x : SlotState) (number s : ℕ) (block : List ℕ) (o : Option (Result IsHeld Failed)) (a b : Shelves) → Stays told a b → AnswerMeans told x number s block o a b
+read_failed : (told : Type 0) (x : SlotState) (number s : ℕ) (block : List ℕ) (o : Option (Result IsHeld Failed)) (a b : Shelves) → ShelvesStay told a b → AnswerMeans told x number s block o a b
     → (n : ℕ) → FailedSo a b n (if is_failed o && (number == n) then 1 else 0)
 read_failed told x number s block None a b y m n = failed_none told a b n y
 read_failed told x number s block (Some (Ok h)) a b y m n = failed_none told a b n y

@@ -24,7 +24,7 @@ use Rattle.pot_outside.specs.declared.archive.Shelf.{Shelf}
 use Rattle.pot_outside.specs.declared.archive.Held.{Held as IsHeld}
 use Rattle.pot_outside.specs.declared.faults.Failed.{Failed}
 use Rattle.pot_outside.proofs.LossLemmas.{loses_nothing}
-use Rattle.pot_shelves.specs.Shelves.{Shelves, numbers_of, shelf_of, given, mark_of, nothing, plain, put_at, Touches, Calls, Keeps, LosesByCount, IsTaken, IsOpenedNow, WriteLeaves, WritesAt, FoldsAt, Stays, ReadsAt}
+use Rattle.pot_shelves.specs.Shelves.{Shelves, numbers_of, shelf_of, given, mark_of, nothing, plain, put_at, Touches, Calls, Keeps, LosesByCount, IsTaken, IsOpenedNow, WriteLeaves, WritesAt, FoldsAt, ShelvesStay, ReadsAt}
 
 -- what `==` of digests says of a block
 pub digest_tells : (block now bytes : List ℕ) (d : Digest) (r : Bool) → now ≡ block → bytes ≡ digest_bytes now
@@ -257,7 +257,7 @@ module _ {A : Type 0} (told : Type 0) (meaning : A → Meaning) (marks opened : 
 
   -- a read
   stays : (number slot : ℕ) (into : List ℕ) (result : Result IsHeld Failed) (old new : List (Shelf A))
-      → Touches number (Calls meaning (Reads told slot into result)) old new → Stays told (data_of old) (data_of new)
+      → Touches number (Calls meaning (Reads told slot into result)) old new → ShelvesStay told (data_of old) (data_of new)
   stays number slot into result old new t = record {
     keeps = keeps number _ old new t t.by.cause.later;
     loses = (λ z. by_number number _ old new t

@@ -24,13 +24,13 @@ use Rattle.pot_steps.specs.Equations.{sum_at, p_weight, q_weight}
 use Rattle.pot_bytes.specs.Digests.{digest_of}
 use Rattle.pot_steps.specs.Stripe.{Stripe, Sound}
 use Rattle.pot_steps.specs.Holdings.{stripe_of}
-use Rattle.pot_steps.specs.GroupStep.{FindsGone, Breaks, Spared, as_read, entries_where, opening}
+use Rattle.pot_steps.specs.GroupStep.{FindsGone, BreaksStripe, Spared, as_read, entries_where, opening}
 use Rattle.pot_shelves.specs.declared.opening.Part.{Part}
 use Rattle.pot_shelves.specs.declared.opening.Part.TheVariants.{Empty, Present, Missing, Broken}
 use Rattle.pot_shelves.specs.declared.opening.Shortage.{Shortage}
 use Rattle.pot_shelves.specs.declared.opening.Shortage.TheVariants.{Nothing, One, Two, More}
 use Rattle.pot_shelves.specs.declared.slots.Reading.{Reading}
-use Rattle.pot_shelves.specs.Shelves.{Shelves, Stays}
+use Rattle.pot_shelves.specs.Shelves.{Shelves, ShelvesStay}
 
 -- each home and each target of the table is one of these archives
 abbrev pub HasArchives : Table → List ℕ → Type 0
@@ -77,7 +77,7 @@ AnswerMeans told x number slot block (Some r) old new =
 -- One slot is read where it is Live.
 pub record ReadsSlot (told : Type 0) (s c : ℕ) (t : Table) (r : Reading)
     (old new : Shelves) : Type 0 where
-  pub stays : Stays told old new
+  pub stays : ShelvesStay told old new
   pub means : AnswerMeans told (slot_at t s c) (serving_at t s c) s r.block r.answer old new
 
 -- The first `n` columns of a stripe are read, one after the other: the archives before and after
@@ -136,7 +136,7 @@ pub record OpensSlot (told : Type 0) (s c : ℕ) (t u : Table) (before now : Lis
   pub replay : Replays t (gone_entry gone s c) u
   pub few : (number : ℕ)
       → FailedSo old new number (if failed && (serving_at t s c == number) then 1 else 0)
-  pub stays : Stays told old new
+  pub stays : ShelvesStay told old new
 
 -- THE COLUMNS OF ONE STRIPE
 
@@ -231,7 +231,7 @@ pub record OpensColumns (told : Type 0) (n s : ℕ) (t u : Table) (before now : 
   pub changes : ChangesStripe s t u
   pub takes : (k : ℕ) → k < width t → TakesBroke t s k → TakesBroke u s k
   pub later : (k : ℕ) → n ≤ k → k < width t → slot_at u s k ≡ slot_at t s k
-  pub stays : Stays told old new
+  pub stays : ShelvesStay told old new
 
 -- ONE STRIPE
 
@@ -248,7 +248,7 @@ pub record OpensStripe (told : Type 0) (s : ℕ) (t u : Table) (before now : Lis
   pub reads : told → (c : ℕ) (b : List ℕ) → c < width t → read c ≡ Some b
       → old.held (serving_at t s c) s ≡ Some b
   pub finds : FindsGone (width t) (as_read t (λ _ c. read c) s) gone
-  pub breaks : Breaks t.data_columns t.parity (as_read t (λ _ c. read c) s) broke
+  pub breaks : BreaksStripe t.data_columns t.parity (as_read t (λ _ c. read c) s) broke
       ⊎ Spared t.data_columns t.parity (as_read t (λ _ c. read c) s) broke
   pub log : now
       ≡ before
@@ -257,7 +257,7 @@ pub record OpensStripe (told : Type 0) (s : ℕ) (t u : Table) (before now : Lis
       (entries_where (width t) gone (Gone 0 s) ++ entries_where (width t) broke (Broke 0 s)) u
   pub few : (number : ℕ) → FailedSo old new number (failures_at t failed s number)
   pub changes : ChangesStripe s t u
-  pub stays : Stays told old new
+  pub stays : ShelvesStay told old new
 
 -- ALL STRIPES
 
@@ -274,9 +274,9 @@ pub record Opens (told : Type 0) (n : ℕ) (t u : Table) (now : List Entry)
       → old.held (serving_at t s c) s ≡ Some b
   pub finds : (s : ℕ) → s < n → FindsGone (width t) (as_read t read s) (gone s)
   pub breaks : (s : ℕ) → s < n
-      → Breaks t.data_columns t.parity (as_read t read s) (broke s)
+      → BreaksStripe t.data_columns t.parity (as_read t read s) (broke s)
       ⊎ Spared t.data_columns t.parity (as_read t read s) (broke s)
   pub log : now ≡ opening (width t) n gone broke
   pub replay : Replays t now u
   pub few : (number : ℕ) → FailedSo old new number (failures t failed n number)
-  pub stays : Stays told old new
+  pub stays : ShelvesStay told old new

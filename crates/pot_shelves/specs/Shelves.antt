@@ -158,7 +158,7 @@ NoneLost old new =
     (number : ℕ) → (new.losses number ≡ old.losses number) × (new.losses number < 2 ^ 64 - 1)
 
 -- Nothing changes but by losses. `told` is whether the archives tell what they hold.
-pub record Stays (told : Type 0) (old new : Shelves) : Type 0 where
+pub record ShelvesStay (told : Type 0) (old new : Shelves) : Type 0 where
   pub keeps : Keeps old new
   pub loses : told → LosesByCount old.held old new
   pub heard : told → (number : ℕ) → new.heard number ≡ old.heard number
@@ -167,7 +167,7 @@ pub record Stays (told : Type 0) (old new : Shelves) : Type 0 where
 -- One archive was asked for the block of a slot. The others hold what they held.
 pub record ReadsAt (told : Type 0) (number slot : ℕ) (into : List ℕ) (result : Result IsHeld Failed)
     (old new : Shelves) : Type 0 where
-  pub stays : Stays told old new
+  pub stays : ShelvesStay told old new
   pub tells : told → ReadTells (new.held number) slot into result
   pub others : told → (n m : ℕ) → n ≢ number → new.held n m ≡ old.held n m
   pub cause : IsErr result → Rose (old.faults number) (new.faults number)

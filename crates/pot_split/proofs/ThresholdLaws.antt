@@ -19,7 +19,7 @@ use Rattle.pot_gf.specs.Polynomials.{value, IsBelowDegree, vanishing}
 use Rattle.pot_gf.proofs.Values.{added, get_or-added, value-added, value-scaled, value-same, value-at_zero, get_or-end}
 use Rattle.pot_gf.proofs.Vanishing.{vanishing-first, vanishing-degree, vanishing-zeros}
 use Rattle.pot_split.specs.Secrecy.{rows_of, IsRows}
-use Rattle.pot_split.specs.Threshold.{column, polynomial_at, share, shares_at, IsJoin, changed_rows, explaining, ArePoints}
+use Rattle.pot_split.specs.Threshold.{column, polynomial_at, share, shares_at, IsJoin, changed_rows, explaining, AreNonzero}
 use Rattle.pot_split.proofs.ShareLemmas.{length-column, length-share, get_or-share, first_row, other_rows}
 
 -- rows that stand one behind another are found again
@@ -104,7 +104,8 @@ column-changed difference v t (suc n) rows k (suc j) e lt =
     ∙ ap (λ s. bit_xor (get_or (column k (rows_of n (length difference) (drop (length difference) rows))) j 0) (byte_product (get_or v s 0) (get_or difference k 0)))
     (let z : suc t + j ≡ t + suc j = omega arith in z)
 
--- the polynomial of the other content is that of the first, and the difference times the one that vanishes
+-- the polynomial of the other content is that of the first, and the difference times the one that
+-- vanishes
 polynomial-changed : (content other coefficients changed v : List ℕ) (k count : ℕ) → AreBytes content → AreBytes other
     → length other ≡ length content → length coefficients ≡ count * length content → 0 < length content
     → get_or v 0 0 ≡ 1 → IsBelowDegree (suc count) v → changed ≡ changed_rows (xor content other) v 1 count coefficients
@@ -160,7 +161,7 @@ polynomial-changed content other coefficients changed v k count b c same rows so
     ]
 
 pub hides_law : (content other coefficients seen : List ℕ)
-    → AreBytes content → AreBytes other → AreBytes coefficients → AreBytes seen → ArePoints seen
+    → AreBytes content → AreBytes other → AreBytes coefficients → AreBytes seen → AreNonzero seen
     → 0 < length content → length other ≡ length content → IsRows (length content) coefficients
     → length seen ≤ length coefficients / length content
     → (i : ℕ) → i < length seen

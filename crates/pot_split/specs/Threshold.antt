@@ -56,8 +56,8 @@ explaining content other seen coefficients =
     coefficients
 
 -- points other than 0
-abbrev pub ArePoints : List ℕ → Type 0
-ArePoints points = (i : ℕ) → i < length points → 0 < slice_index points i
+abbrev pub AreNonzero : List ℕ → Type 0
+AreNonzero points = (i : ℕ) → i < length points → 0 < slice_index points i
 
 -- What makes it a sharing of a secret.
 pub record ThresholdLaws : Type 0 where
@@ -70,7 +70,7 @@ pub record ThresholdLaws : Type 0 where
       → IsJoin points (shares_at content coefficients points) joined → joined ≡ content
   -- shares at no more points than there are rows of coefficients are those of any other content too
   pub hides : (content other coefficients seen : List ℕ)
-      → AreBytes content → AreBytes other → AreBytes coefficients → AreBytes seen → ArePoints seen
+      → AreBytes content → AreBytes other → AreBytes coefficients → AreBytes seen → AreNonzero seen
       → 0 < length content → length other ≡ length content → IsRows (length content) coefficients
       → length seen ≤ length coefficients / length content
       → (i : ℕ) → i < length seen

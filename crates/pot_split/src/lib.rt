@@ -1,5 +1,5 @@
-//! The two splits of an archive without keys: by XOR, where all fragments are needed, and by a threshold,
-//! where some shares suffice.
+//! The two splits of an archive without keys: by XOR, where all fragments are needed, and by a
+//! threshold, where some shares suffice.
 //!
 //! It knows bytes alone: no file, no format and no place. It takes no memory and refuses nothing.
 #![tactic(auto)]
@@ -34,8 +34,8 @@ mod tests {
         Ok(())
     }
 
-    /// A content byte of hexadecimal 57 with the coefficient 83, and a content of two bytes with two
-    /// rows, computed from the polynomials apart from this crate.
+    /// A content byte of hexadecimal 57 with the coefficient 83, and a content of two bytes with
+    /// two rows, computed from the polynomials apart from this crate.
     #[test]
     fn splits_by_threshold(rt: HostRuntime) {
         let mut out = [0];

@@ -4,8 +4,8 @@ ghost use Rattle.pot_split.specs.Secrecy.{rows_of, meaning, IsRows, SecrecyLaws}
 
 use pot_bytes::xor_into;
 
-/// The last fragment of an object: the object XOR all pads. The other fragments are the pads, row by row,
-/// each as long as the object.
+/// The last fragment of an object: the object XOR all pads. The other fragments are the pads, row
+/// by row, each as long as the object.
 pub fn secrecy_split(object: &[u8], pads: &[u8], last: &mut [u8])
     requires same_length { length last.old ≡ length object.now }
     requires rows { IsRows (length object.now) pads.now }
@@ -27,7 +27,8 @@ pub fn secrecy_join(fragments: &[u8], out: &mut [u8])
     add_rows(out, fragments, fragments.len() / out.len());
 }
 
-/// Whatever the pads, all fragments together give the object, and all but one are those of any other object too.
+/// Whatever the pads, all fragments together give the object, and all but one are those of any
+/// other object too.
 pub fn secrecy_laws()
     ensures { SecrecyLaws }
 {}

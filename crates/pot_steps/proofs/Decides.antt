@@ -18,7 +18,7 @@ use Rattle.pot_bytes.specs.Digests.{digest_of}
 use Rattle.pot_steps.specs.Stripe.{Stripe, IsSound, Filling}
 use Rattle.pot_steps.specs.Law.{IsRead}
 use Rattle.pot_steps.specs.Flight.{weight, p_times, q_times}
-use Rattle.pot_steps.specs.Decides.{Computed, AreRead, Serves}
+use Rattle.pot_steps.specs.Decides.{Computed, IsStripeRead, StandsForSlot}
 use Rattle.pot_steps.proofs.BlockLemmas.{same_blocks}
 use Rattle.pot_steps.proofs.Relays.{weight-target, weight-left_out, p-low_q, q-low_q}
 use Rattle.pot_steps.proofs.Rebuilt.{combined, balanced, p_weight-below, q_weight-below}
@@ -31,7 +31,7 @@ pub left_out_of : (t x : ℕ) → (if nat_eq t t then 0 else x) ≡ 0
 left_out_of t x = grind (arith, nat_tests)
 
 -- a block that was read serves
-pub read_serves : (s : Stripe) (c : ℕ) (b : List ℕ) → IsRead s c b → Serves s c b
+pub read_serves : (s : Stripe) (c : ℕ) (b : List ℕ) → IsRead s c b → StandsForSlot s c b
 read_serves s c b (inl x) = record {
   void = λ e. absurd (live_void (sym x.live ∙ e));
   digest = λ d e. x.right ∙ some_same (sym (ap digest_in x.live) ∙ e);
@@ -56,7 +56,7 @@ read_serves s c b (inr v) = record {
     no_some e = cc
 
 module _ (data_columns parity : ℕ) (few : parity ≤ 2) (one : 1 ≤ parity) (small : data_columns ≤ 16) (s : Stripe) (t u : ℕ) (base : ℕ → List ℕ)
-    (t_in : t < data_columns + parity) (u_in : u ≤ suc data_columns) (ne : u ≢ t) (single : parity ≡ 1 → data_columns < u) (read : AreRead data_columns parity s t u base) where
+    (t_in : t < data_columns + parity) (u_in : u ≤ suc data_columns) (ne : u ≢ t) (single : parity ≡ 1 → data_columns < u) (read : IsStripeRead data_columns parity s t u base) where
   t_le : t ≤ suc data_columns
   t_le = omega arith
 
@@ -82,7 +82,7 @@ module _ (data_columns parity : ℕ) (few : parity ≤ 2) (one : 1 ≤ parity) (
       ∙ sym (total_change n rest all t t_in others) ∙ balanced data_columns parity few one s f t u k h t_in single))
 
   -- the other way round
-  module _ (x y : List ℕ) (cx : Computed data_columns parity t u base x) (cy : parity ≡ 2 → Computed data_columns parity u t base y) (sx : Serves s t x) (sy : parity ≡ 2 → Serves s u y) where
+  module _ (x y : List ℕ) (cx : Computed data_columns parity t u base x) (cy : parity ≡ 2 → Computed data_columns parity u t base y) (sx : StandsForSlot s t x) (sy : parity ≡ 2 → StandsForSlot s u y) where
     pub made : ℕ → List ℕ
     made c = if nat_eq c t then x else if nat_eq c u then y else base c
 

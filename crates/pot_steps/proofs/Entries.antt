@@ -18,7 +18,7 @@ use Rattle.pot_machine.proofs.Searches.{least_none}
 use Rattle.pot_machine.proofs.Places.{slot_after, slot_same, slot_other}
 use Rattle.pot_machine.proofs.Kept.{put_other, put_data, put_parity, put2_other, put2_second}
 use Rattle.pot_bytes.specs.Digests.{digest_of}
-use Rattle.pot_steps.specs.Stripe.{Stripe, IsOld, IsNew, Puts}
+use Rattle.pot_steps.specs.Stripe.{Stripe, IsOld, IsNewParity, PutsIntoStripe}
 use Rattle.pot_steps.specs.Law.{StripeLaw, Worse, AllLive}
 use Rattle.pot_steps.specs.Holdings.{Holdings, StripesConsistent, stripe_of}
 use Rattle.pot_steps.specs.Entries.{held_at, LosesAtLive, WritesStripe, EntryKeeps, EntryKeepsFlight, LossesKeep}
@@ -67,7 +67,7 @@ broke t h h' s c n table ls lc takes lt loses up = elim (cases_eq n s) [
 -- PUTS
 
 -- a parity slot after a put
-new_slot : (s : Stripe) (c : ℕ) (new : List ℕ) (kept : Bool) → s.slots c ≡ parity_slot (digest_of new) kept → (kept ≡ true → s.held c ≡ Some new) → IsNew s c new
+new_slot : (s : Stripe) (c : ℕ) (new : List ℕ) (kept : Bool) → s.slots c ≡ parity_slot (digest_of new) kept → (kept ≡ true → s.held c ≡ Some new) → IsNewParity s c new
 new_slot s c new true e h = record { digest = ap digest_in e; kept = λ d l. h refl }
 new_slot s c new false e h = record { digest = ap digest_in e; kept = λ d l. absurd (lost_live (sym e ∙ l)) }
   where
@@ -108,7 +108,7 @@ module _ (t : Table) (h h' : Holdings) (s c : ℕ) (digest parity_digest : Diges
       reached : (a b : ℕ) → a ≡ b → nat_le a b ≡ true
       reached a b e = grind (arith, nat_tests)
 
-  pub puts_one : t.parity ≡ 1 → Puts t.data_columns t.parity (stripe_of t h s) (stripe_of (with_put t s c digest parity_digest kept) h' s) c block p q
+  pub puts_one : t.parity ≡ 1 → PutsIntoStripe t.data_columns t.parity (stripe_of t h s) (stripe_of (with_put t s c digest parity_digest kept) h' s) c block p q
   puts_one single = record {
     is_block = w.is_block;
     column = column;
@@ -131,7 +131,7 @@ module _ (t : Table) (h h' : Holdings) (s c : ℕ) (digest parity_digest : Diges
       (λ k lk. inl (slots k lk)) (λ k b lk void e. sym (w.others n k ln lk (inl ne)) ∙ sym (held k) ∙ e)
 
   put_step : (u : Table) (n : ℕ) → ((n : ℕ) → n < t.stripes → n ≢ s → Worse t.data_columns t.parity (stripe_of t h n) (stripe_of u h' n))
-      → Puts t.data_columns t.parity (stripe_of t h s) (stripe_of u h' s) c block p q → StripesConsistent t h → n < t.stripes → StripeLaw t.data_columns t.parity (stripe_of u h' n) (relay_at t n)
+      → PutsIntoStripe t.data_columns t.parity (stripe_of t h s) (stripe_of u h' s) c block p q → StripesConsistent t h → n < t.stripes → StripeLaw t.data_columns t.parity (stripe_of u h' n) (relay_at t n)
   put_step u n others puts up ln = elim (cases_eq n s) [
     | inl e ↦ subst (λ n. StripeLaw t.data_columns t.parity (stripe_of u h' n) (relay_at t n)) (sym e)
         (subst (λ o. StripeLaw t.data_columns t.parity (stripe_of u h' s) o) (sym takes.2.0)
@@ -157,7 +157,7 @@ module _ (t : Table) (h h' : Holdings) (s c : ℕ) (digest parity_digest : Diges
     pub second_other : (n k : ℕ) → k < width t → ((n ≡ s) × (k ≡ t.data_columns + 1) → ⊥) → slot_at both n k ≡ slot_at (with_put t s c digest parity_digest kept) n k
     second_other n k lk ne = put2_other t s c digest parity_digest second_digest kept kept2 in_stripe column table.size double n k lk ne
 
-    pub puts_two : Puts t.data_columns t.parity (stripe_of t h s) (stripe_of both h' s) c block p q
+    pub puts_two : PutsIntoStripe t.data_columns t.parity (stripe_of t h s) (stripe_of both h' s) c block p q
     puts_two = record {
       is_block = w.is_block;
       column = column;
@@ -170,7 +170,7 @@ module _ (t : Table) (h h' : Holdings) (s c : ℕ) (digest parity_digest : Diges
           (second_other s t.data_columns (omega arith) (λ e. (let g : t.data_columns ≡ t.data_columns + 1 = e.1 in omega arith))
           ∙ put_parity t s c digest parity_digest kept in_stripe column table.size ∙ ap (λ d. parity_slot d kept) is_parity) w.new_p;
       old_q = λ two. subst (λ j. IsOld (stripe_of t h s) j q) one_more (w.old_q two);
-      new_q = λ two. subst (λ j. IsNew (stripe_of both h' s) j (xor q (scaled (power 3 c) block))) one_more
+      new_q = λ two. subst (λ j. IsNewParity (stripe_of both h' s) j (xor q (scaled (power 3 c) block))) one_more
           (new_slot (stripe_of both h' s) (t.data_columns + 1) (xor q (scaled (power 3 c) block)) kept2
           (put2_second t s c digest parity_digest second_digest kept kept2 in_stripe column table.size double ∙ ap (λ d. parity_slot d kept2) is_second) (w.new_q two));
       other_slots = λ k lk ne. second_other s k (omega arith) (λ e. (let g : k ≡ t.data_columns + 1 = e.1 in omega arith))

@@ -24,7 +24,7 @@ use Rattle.pot_steps.specs.Entries.{held_at}
 use Rattle.pot_steps.specs.Losses.{KeepsHeld}
 use Rattle.pot_steps.specs.GroupStep.{GroupState, Settled, Seen, Gone, Faulted, LogFull}
 use Rattle.pot_steps.specs.RelaySteps.{Logged, MendStep, MendAnswer, Began, Extends, NoNeed, Stuck, MendOdd, MendFaulted, MendFull, GoesBy, MovesRelay, Unchanged}
-use Rattle.pot_steps.specs.Mending.{LosesNothing, MendedWell, Mends, MendingLaw, mends_needed}
+use Rattle.pot_steps.specs.Mending.{LosesNothing, MendedWell, MendsSoOften, MendingLaw, mends_needed}
 use Rattle.pot_steps.proofs.Acting.{find_all, slots_less, broken_before, live_of_digest}
 use Rattle.pot_steps.proofs.AheadLemmas.{ahead_few}
 use Rattle.pot_steps.proofs.Group.{look_keeps}
@@ -228,11 +228,11 @@ stays job s c blind Extends old new y step well = absurd (sound_live old s c y s
 -- MANY CALLS
 
 -- a place that is sound stays so
-all_stay : (n s c : ℕ) (old new : GroupState) → Sound (stripe_of old.table old.held s) c → Mends n s c old new → Sound (stripe_of new.table new.held s) c
+all_stay : (n s c : ℕ) (old new : GroupState) → Sound (stripe_of old.table old.held s) c → MendsSoOften n s c old new → Sound (stripe_of new.table new.held s) c
 all_stay zero s c old new y m = subst (λ g. Sound (stripe_of g.table g.held s) c) (sym m) y
 all_stay (suc n) s c old new y m = all_stay n s c m.3 new (stays m.0 s c m.1 m.2 old m.3 y m.4 m.5) m.7
 
-reached : (n s c : ℕ) (old new : GroupState) → Settled old → Nearer old s c n → Mends n s c old new → Sound (stripe_of new.table new.held s) c
+reached : (n s c : ℕ) (old new : GroupState) → Settled old → Nearer old s c n → MendsSoOften n s c old new → Sound (stripe_of new.table new.held s) c
 reached n s c old new settled (inl y) m = all_stay n s c old new y m
 reached zero s c old new settled (inr x) m = absurd (none_left old.table s c x.0 x.2)
 reached (suc n) s c old new settled (inr x) m =

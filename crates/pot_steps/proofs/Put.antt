@@ -17,7 +17,7 @@ use Rattle.pot_machine.specs.Slot.{digest_in}
 use Rattle.pot_bytes.specs.Lists.{IsBlock}
 use Rattle.pot_steps.specs.Equations.{p_weight, q_weight}
 use Rattle.pot_bytes.specs.Digests.{digest_of}
-use Rattle.pot_steps.specs.Stripe.{Stripe, IsSound, Filling, IsOld, Puts}
+use Rattle.pot_steps.specs.Stripe.{Stripe, IsSound, Filling, IsOld, PutsIntoStripe}
 use Rattle.pot_steps.proofs.SumLemmas.{total_twice}
 use Rattle.pot_steps.proofs.BlockLemmas.{get_or-zero_block, IsBlock-xor, IsBlock-scaled}
 use Rattle.pot_steps.proofs.Weights.{p_weight-low, p_weight-high, q_weight-low, q_weight-p, q_weight-q}
@@ -66,7 +66,7 @@ by_column P data_columns parity c le here others at_p at_q k lt = elim (which k 
     which : (k data_columns c parity : ℕ) → parity ≤ 2 → k < data_columns + parity → (k ≡ c) ⊎ (((k < data_columns) × (k ≢ c)) ⊎ ((k ≡ data_columns) ⊎ ((k ≡ suc data_columns) × (parity ≡ 2))))
     which k data_columns c parity le lt = grind arith
 
-module _ (data_columns parity : ℕ) (s s' : Stripe) (c : ℕ) (block p q : List ℕ) (blocks : ℕ → List ℕ) (small : data_columns ≤ 16) (few : parity ≤ 2) (one : 1 ≤ parity) (put : Puts data_columns parity s s' c block p q) (f : Filling data_columns parity s blocks) where
+module _ (data_columns parity : ℕ) (s s' : Stripe) (c : ℕ) (block p q : List ℕ) (blocks : ℕ → List ℕ) (small : data_columns ≤ 16) (few : parity ≤ 2) (one : 1 ≤ parity) (put : PutsIntoStripe data_columns parity s s' c block p q) (f : Filling data_columns parity s blocks) where
   pub new : ℕ → List ℕ
   unfolding with_put
   new = with_put data_columns c block (xor p block) (xor q (scaled (power 3 c) block)) blocks

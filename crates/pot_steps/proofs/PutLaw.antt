@@ -14,14 +14,14 @@ use Rattle.pot_bytes.specs.Lists.{IsBlock}
 use Rattle.pot_machine.proofs.Searches.{count_none}
 use Rattle.pot_steps.specs.Equations.{p_weight}
 use Rattle.pot_bytes.specs.Digests.{digest_of}
-use Rattle.pot_steps.specs.Stripe.{Stripe, Filling, Puts}
+use Rattle.pot_steps.specs.Stripe.{Stripe, Filling, PutsIntoStripe}
 use Rattle.pot_steps.specs.Law.{StripeLaw, AllLive, SingleLaw, IsRead}
 use Rattle.pot_steps.proofs.BlockLemmas.{same_blocks}
 use Rattle.pot_steps.proofs.Weights.{p_weight-low}
 use Rattle.pot_steps.proofs.Put.{new, put_keeps}
 
 pub put_keeps_law : (data_columns parity : ℕ) (s s' : Stripe) (c : ℕ) (block p q : List ℕ) → data_columns ≤ 16 → parity ≤ 2 → 1 ≤ parity
-    → AllLive data_columns parity s → Puts data_columns parity s s' c block p q → StripeLaw data_columns parity s None → StripeLaw data_columns parity s' None
+    → AllLive data_columns parity s → PutsIntoStripe data_columns parity s s' c block p q → StripeLaw data_columns parity s None → StripeLaw data_columns parity s' None
 put_keeps_law data_columns parity s s' c block p q small few one sound put law none le =
     let f : (blocks : ℕ → List ℕ) × Filling data_columns parity s blocks = law (λ k d lt e. unbroken (s.slots k) d (sound k lt) e)
     (inr (rw (count_none (data_columns + parity) (λ k. is_lost (s.slots k)) (λ k lt. unlost (s.slots k) (sound k lt))) (omega arith))) in

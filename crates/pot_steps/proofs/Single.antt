@@ -13,13 +13,13 @@ use Rattle.pot_bytes.specs.Lists.{IsBlock}
 use Rattle.pot_bytes.specs.Digests.{digest_of}
 use Rattle.pot_steps.specs.Stripe.{Stripe, Sound, Filling}
 use Rattle.pot_steps.specs.Law.{IsRead}
-use Rattle.pot_steps.specs.Decides.{Serves}
+use Rattle.pot_steps.specs.Decides.{StandsForSlot}
 use Rattle.pot_steps.specs.Laws.{SingleWhole, SingleBut}
 use Rattle.pot_steps.proofs.Decides.{read_serves}
 use Rattle.pot_steps.proofs.PutLaw.{plain, single_law}
 
 -- blocks that serve, and whose XOR is zero, are a filling
-plain_filling : (data_columns : ℕ) (s : Stripe) (f : ℕ → List ℕ) → ((c : ℕ) → c ≤ data_columns → IsBlock (f c)) → ((c : ℕ) → c ≤ data_columns → Serves s c (f c))
+plain_filling : (data_columns : ℕ) (s : Stripe) (f : ℕ → List ℕ) → ((c : ℕ) → c ≤ data_columns → IsBlock (f c)) → ((c : ℕ) → c ≤ data_columns → StandsForSlot s c (f c))
     → ((k : ℕ) → total (suc data_columns) (λ c. get_or (f c) k 0) ≡ 0) → Filling data_columns 1 s f
 plain_filling data_columns s f block serves sum = record {
   block = λ c lt. block c (omega arith);
@@ -66,7 +66,7 @@ module _ (data_columns u : ℕ) (s : Stripe) (base : ℕ → List ℕ) (d : Dige
       same_or : (k c : ℕ) → (k ≡ c) ⊎ (k ≢ c)
       same_or k c = grind arith
 
-  rest_serves : Serves s u rest
+  rest_serves : StandsForSlot s u rest
   rest_serves = record {
     void = λ e. absurd (apart (s.slots u) e has);
     digest = λ x e. right ∙ some_same d x (sym has ∙ e);
@@ -98,7 +98,7 @@ module _ (data_columns u : ℕ) (s : Stripe) (base : ℕ → List ℕ) (d : Dige
 
   rest_filling : Filling data_columns 1 s with_rest
   rest_filling = plain_filling data_columns s with_rest (each (λ c b. IsBlock b) block (λ c le ne. (read c le ne).0))
-      (each (λ c b. Serves s c b) rest_serves (λ c le ne. read_serves s c (base c) (read c le ne).1)) sum
+      (each (λ c b. StandsForSlot s c b) rest_serves (λ c le ne. read_serves s c (base c) (read c le ne).1)) sum
 
 pub single_but : SingleBut
 single_but data_columns u s base d rest small le has unsound read block is = (

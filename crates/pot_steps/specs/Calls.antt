@@ -15,7 +15,7 @@ use Rattle.pot_steps.specs.declared.rebuilding.Finished.{Finished}
 use Rattle.pot_steps.specs.declared.rebuilding.Finished.TheVariants as finished
 
 -- a relay of the table
-pub record StandsIn (t : Table) (r : Relay) : Type 0 where
+pub record RelayStandsIn (t : Table) (r : Relay) : Type 0 where
   pub here : relay_at t r.stripe ≡ Some r
 
 -- Folded: what was added is a block of the digest of the next column's slot. Ended: it is not.

@@ -23,12 +23,12 @@ pub record Computed (data_columns parity t u : ℕ) (base : ℕ → List ℕ) (x
       else byte_product (weight data_columns t u c) (slice_index (base c) k))
 
 -- the blocks that were read of the stripe, but for the columns `t` and `u`
-abbrev pub AreRead : ℕ → ℕ → Stripe → ℕ → ℕ → (ℕ → List ℕ) → Type 0
-AreRead data_columns parity s t u base =
+abbrev pub IsStripeRead : ℕ → ℕ → Stripe → ℕ → ℕ → (ℕ → List ℕ) → Type 0
+IsStripeRead data_columns parity s t u base =
     (c : ℕ) → c < data_columns + parity → c ≢ t → c ≢ u → IsBlock (base c) × IsRead s c (base c)
 
 -- a block that may stand for a slot
-pub record Serves (s : Stripe) (c : ℕ) (x : List ℕ) : Type 0 where
+pub record StandsForSlot (s : Stripe) (c : ℕ) (x : List ℕ) : Type 0 where
   pub void : s.slots c ≡ Void → x ≡ zero_block
   pub digest : (d : Digest) → digest_in (s.slots c) ≡ Some d → digest_of x ≡ d
   pub held : (b : List ℕ) → IsSound s c b → x ≡ b

@@ -1,7 +1,7 @@
 -- The equations of a stripe. Its data columns are 0 to C-1, column C is P, and column C+1 is Q
 -- where there are two parity columns. The XOR of the data blocks and P is zero, and so is that of
 -- 3^c times the block of each data column c, and Q.
-use Rattle.std.specs.Prelude.{ℕ, ◌≡◌, ◌<◌, List, length, slice_index, nat_lt, nat_le, nat_eq}
+use Rattle.std.specs.Prelude.{ℕ, ◌≡◌, ◌<◌, List, slice_index, nat_lt, nat_le, nat_eq}
 use Rattle.std.specs.Prelude.{if◌then◌else◌}
 use Rattle.pot_bytes.specs.Totals.{total}
 use Rattle.pot_bytes.specs.Product.{byte_product}

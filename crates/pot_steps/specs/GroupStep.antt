@@ -110,7 +110,7 @@ put_entry parity job s c block p q kept kept2 =
 
 -- A parity slot that failed its check, in a stripe that takes blocks else: the slot was Live, and
 -- no block of its digest is held there now. Where it is Q, P passed.
-pub record IsMissing (old : GroupState) (now : Holdings) (s c : ℕ) : Type 0 where
+pub record IsParityMissing (old : GroupState) (now : Holdings) (s c : ℕ) : Type 0 where
   pub takes : TakesBlocks old.table s
   pub live : IsTrue (is_live (slot_at old.table s c))
   pub parity : old.table.data_columns ≤ c
@@ -121,7 +121,7 @@ pub record IsMissing (old : GroupState) (now : Holdings) (s c : ℕ) : Type 0 wh
 -- The stripes that a put passes: the table is `at` then, and `now` is what the archives hold then.
 pub record PassesTo (job : ℕ) (passed : List Passed) (old : GroupState) (at : Table)
     (now : Holdings) : Type 0 where
-  pub missing : All (λ x. IfSome x.gone (λ c. IsMissing old now x.stripe c)) passed
+  pub missing : All (λ x. IfSome x.gone (λ c. IsParityMissing old now x.stripe c)) passed
   pub replay : Replays old.table (skips job passed) at
   pub loses : LosesBlocks old.held now
 
@@ -160,7 +160,7 @@ abbrev pub unkept : ℕ → Bool → ℕ
 unkept data_columns kept = if kept then data_columns + 1 else data_columns
 
 -- the answer Faulted where a parity block was not written
-pub record PutUnkept (job column : ℕ) (block : List ℕ) (old new : GroupState) : Type 0 where
+pub record PutKeptNoParity (job column : ℕ) (block : List ℕ) (old new : GroupState) : Type 0 where
   pub passed : List Passed
   pub at : Table
   pub now : Holdings
@@ -214,7 +214,7 @@ pub record PutLogFull (job : ℕ) (old new : GroupState) : Type 0 where
   pub passed : List Passed
   pub at : Table
   pub gone : Option ℕ
-  pub missing : IfSome gone (λ c. IsMissing old new.held at.cursor.stripe c)
+  pub missing : IfSome gone (λ c. IsParityMissing old new.held at.cursor.stripe c)
   pub passes : PassesTo job passed old at new.held
   pub replay : Replays at (gone_entries job at.cursor.stripe gone) new.table
   pub logs : LogsInStep (skips job passed ++ gone_entries job at.cursor.stripe gone) old new
@@ -230,7 +230,7 @@ pub data PutAnswer : Type 0 where
 abbrev pub PutStep : ℕ → List ℕ → PutAnswer → GroupState → GroupState → Type 0
 PutStep job block (Placed s c) old new = PutPlaced job s c block old new
 PutStep job block (NotPut column) old new =
-    PutUnkept job column block old new ⊎ PutFailed job column block old new
+    PutKeptNoParity job column block old new ⊎ PutFailed job column block old new
 PutStep job block Full old new = PutFull job old new
 PutStep job block NoRoom old new = PutLogFull job old new
 
@@ -261,7 +261,7 @@ pub record FindsGone (wide : ℕ) (s : Stripe) (test : ℕ → Bool) : Type 0 wh
 
 -- A stripe without a Broken slot that has no filling, and in which few slots are unsound. Each of
 -- these breaks, or each parity slot where there is none.
-pub record Breaks (data_columns parity : ℕ) (s : Stripe) (test : ℕ → Bool) : Type 0 where
+pub record BreaksStripe (data_columns parity : ℕ) (s : Stripe) (test : ℕ → Bool) : Type 0 where
   pub none_broken : NoneBroken data_columns parity s
   pub no_filling : HasFilling data_columns parity s → ⊥
   pub few : FewUnsound data_columns parity s
@@ -294,7 +294,7 @@ pub record StartStep (old new : GroupState) : Type 0 where
   pub finds : (s : ℕ) → s < old.table.stripes
       → FindsGone (width old.table) (as_read old.table read s) (gone s)
   pub breaks : (s : ℕ) → s < old.table.stripes
-      → Breaks old.table.data_columns old.table.parity (as_read old.table read s) (broke s)
+      → BreaksStripe old.table.data_columns old.table.parity (as_read old.table read s) (broke s)
       ⊎ Spared old.table.data_columns old.table.parity (as_read old.table read s) (broke s)
   pub logs : LogsInStep (opening (width old.table) old.table.stripes gone broke) old new
   pub replay : Replays old.table (opening (width old.table) old.table.stripes gone broke) new.table

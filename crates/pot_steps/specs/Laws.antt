@@ -12,14 +12,14 @@ use Rattle.pot_bytes.specs.Lists.{IsBlock}
 use Rattle.pot_steps.specs.Equations.{sum_at, p_weight, q_weight}
 use Rattle.pot_bytes.specs.Digests.{digest_of}
 use Rattle.pot_steps.specs.Stripe.{Stripe, IsSound, Sound, Filling, HasFilling, NoneBroken, Whole}
-use Rattle.pot_steps.specs.Stripe.{Puts}
+use Rattle.pot_steps.specs.Stripe.{PutsIntoStripe}
 use Rattle.pot_steps.specs.Law.{StripeLaw, Worse, Repairs, AllLive, SingleLaw, IsRead, Rebuildable}
 use Rattle.pot_steps.specs.Law.{lost_count}
 use Rattle.pot_steps.specs.Flight.{IsRelay, IsNext, HasNoNext, hopped, weight_in, FlightLaw}
-use Rattle.pot_steps.specs.Decides.{Computed, AreRead, Serves}
+use Rattle.pot_steps.specs.Decides.{Computed, IsStripeRead, StandsForSlot}
 
 -- at most 16 data columns, and one or two parity columns
-pub record Fits (data_columns parity : ℕ) : Type 0 where
+pub record FitsColumns (data_columns parity : ℕ) : Type 0 where
   pub small : data_columns ≤ 16
   pub few : parity ≤ 2
   pub one : 1 ≤ parity
@@ -28,8 +28,8 @@ pub record Fits (data_columns parity : ℕ) : Type 0 where
 abbrev pub PutKeeps : Type 0
 PutKeeps =
     (data_columns parity : ℕ) (s s' : Stripe) (c : ℕ) (block p q : List ℕ)
-    → Fits data_columns parity → AllLive data_columns parity s
-    → Puts data_columns parity s s' c block p q → StripeLaw data_columns parity s None
+    → FitsColumns data_columns parity → AllLive data_columns parity s
+    → PutsIntoStripe data_columns parity s s' c block p q → StripeLaw data_columns parity s None
     → StripeLaw data_columns parity s' None
 
 -- a loss keeps it, and so does a slot that becomes Lost, a relay that ends, or an archive that
@@ -70,7 +70,7 @@ HopKeeps =
 -- without a Broken slot
 abbrev pub MendedKeeps : Type 0
 MendedKeeps =
-    (data_columns parity : ℕ) → Fits data_columns parity
+    (data_columns parity : ℕ) → FitsColumns data_columns parity
     → (s s' : Stripe) (r : Relay) (partial : List ℕ) → IsRelay data_columns parity r
     → HasNoNext data_columns parity s r
     → Repairs data_columns parity s s' r.target partial → FlightLaw data_columns parity s r partial
@@ -81,7 +81,7 @@ MendedKeeps =
 -- digest
 abbrev pub RelayRebuilds : Type 0
 RelayRebuilds =
-    (data_columns parity : ℕ) → Fits data_columns parity
+    (data_columns parity : ℕ) → FitsColumns data_columns parity
     → (s : Stripe) (r : Relay) (partial : List ℕ) → IsRelay data_columns parity r
     → HasNoNext data_columns parity s r
     → FlightLaw data_columns parity s r partial → NoneBroken data_columns parity s
@@ -132,7 +132,7 @@ SingleBut =
     → HasFilling data_columns 1 s ↔ (digest_of rest ≡ d)
 
 -- two columns, of which the second need not be one of the stripe where there is one parity column
-pub record AreApart (data_columns parity t u : ℕ) : Type 0 where
+pub record AreDistinctColumns (data_columns parity t u : ℕ) : Type 0 where
   pub target : t < data_columns + parity
   pub other : u ≤ suc data_columns
   pub apart : u ≢ t
@@ -141,20 +141,20 @@ pub record AreApart (data_columns parity t u : ℕ) : Type 0 where
 -- every filling has the computed block
 abbrev pub FillingComputed : Type 0
 FillingComputed =
-    (data_columns parity : ℕ) → Fits data_columns parity
-    → (s : Stripe) (t u : ℕ) (base : ℕ → List ℕ) → AreApart data_columns parity t u
-    → AreRead data_columns parity s t u base → (f : ℕ → List ℕ) (x : List ℕ)
+    (data_columns parity : ℕ) → FitsColumns data_columns parity
+    → (s : Stripe) (t u : ℕ) (base : ℕ → List ℕ) → AreDistinctColumns data_columns parity t u
+    → IsStripeRead data_columns parity s t u base → (f : ℕ → List ℕ) (x : List ℕ)
     → Filling data_columns parity s f → Computed data_columns parity t u base x → x ≡ f t
 
 -- and computed blocks that serve make one
 abbrev pub ComputedFilling : Type 0
 ComputedFilling =
-    (data_columns parity : ℕ) → Fits data_columns parity
-    → (s : Stripe) (t u : ℕ) (base : ℕ → List ℕ) → AreApart data_columns parity t u
-    → AreRead data_columns parity s t u base → (x y : List ℕ)
+    (data_columns parity : ℕ) → FitsColumns data_columns parity
+    → (s : Stripe) (t u : ℕ) (base : ℕ → List ℕ) → AreDistinctColumns data_columns parity t u
+    → IsStripeRead data_columns parity s t u base → (x y : List ℕ)
     → Computed data_columns parity t u base x
     → (parity ≡ 2 → Computed data_columns parity u t base y)
-    → Serves s t x → (parity ≡ 2 → Serves s u y) → HasFilling data_columns parity s
+    → StandsForSlot s t x → (parity ≡ 2 → StandsForSlot s u y) → HasFilling data_columns parity s
 
 -- the partial after a hop, where the blind is taken out of the sum
 abbrev pub SumGrows : Type 0

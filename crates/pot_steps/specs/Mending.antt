@@ -34,12 +34,12 @@ MendedWell _ = Unit {0}
 -- so many calls of `mend` at a place, of any jobs and with any blinds, one after another and
 -- without any other call between them, in which no device fails, the log has room and no block is
 -- lost
-abbrev pub Mends : ℕ → ℕ → ℕ → GroupState → GroupState → Type 0
-Mends zero s c old new = new ≡ old
-Mends (suc n) s c old new =
+abbrev pub MendsSoOften : ℕ → ℕ → ℕ → GroupState → GroupState → Type 0
+MendsSoOften zero s c old new = new ≡ old
+MendsSoOften (suc n) s c old new =
     (job : ℕ) × (blind : List ℕ) × (answer : MendAnswer) × (mid : GroupState)
     × MendStep job s c blind answer old mid × MendedWell answer × LosesNothing old mid
-    × Mends n s c mid new
+    × MendsSoOften n s c mid new
 
 -- With C data columns 2C+3 calls with one parity column, and 3C+4 with two: a relay of another
 -- target ends, and then one relay of the place for each other slot of its stripe that may be found
@@ -55,5 +55,5 @@ MendingLaw =
     → s < old.table.stripes
     → Rebuildable old.table.data_columns old.table.parity (stripe_of old.table old.held s) c
     → LookStep job s c answer old looked → LookedWell answer → LosesNothing old looked
-    → mends_needed old.table.data_columns old.table.parity ≤ n → Mends n s c looked new
+    → mends_needed old.table.data_columns old.table.parity ≤ n → MendsSoOften n s c looked new
     → Sound (stripe_of new.table new.held s) c

@@ -11,7 +11,7 @@ use Rattle.pot_steps.specs.RelaySteps.{Logged, HeardStays, Unchanged}
 
 -- An archive comes with what it holds and has heard. No archive of this number was in the group,
 -- and the others stay as they are.
-pub record Brings (number : ℕ) (held : ℕ → Option (List ℕ)) (heard : List (ℕ × List ℕ))
+pub record BringsToGroup (number : ℕ) (held : ℕ → Option (List ℕ)) (heard : List (ℕ × List ℕ))
     (old new : GroupState) : Type 0 where
   pub blocks : (slot : ℕ) → new.held number slot ≡ held slot
   pub sums : new.heard number ≡ heard
@@ -22,7 +22,7 @@ pub record Brings (number : ℕ) (held : ℕ → Option (List ℕ)) (heard : Lis
 pub record BringStep (e : Entry) (number : ℕ) (held : ℕ → Option (List ℕ))
     (heard : List (ℕ × List ℕ)) (old new : GroupState) : Type 0 where
   pub logs : Logged e [] old new
-  pub brings : Brings number held heard old new
+  pub brings : BringsToGroup number held heard old new
 
 -- ONE STRIPE OF A MOVE
 
@@ -35,8 +35,8 @@ pub data MoveAnswer : Type 0 where
   MoveFull : MoveAnswer
 
 -- the column moves, and has come to this stripe
-abbrev pub IsAt : Table → ℕ → ℕ → Type 0
-IsAt t c s = IsSomeAnd (column_at t c).moving (λ m. m.upto ≡ s)
+abbrev pub IsMoveAt : Table → ℕ → ℕ → Type 0
+IsMoveAt t c s = IsSomeAnd (column_at t c).moving (λ m. m.upto ≡ s)
 
 abbrev pub MoveStep : ℕ → ℕ → MoveAnswer → GroupState → GroupState → Type 0
 MoveStep job c Copied old new =
@@ -46,7 +46,7 @@ MoveStep job c Passed old new =
     × (Sound (stripe_of old.table new.held s) c → ⊥)
 MoveStep job c MoveEnded old new = Logged (entry.MoveEnd job c) [] old new × HeardStays old new
 MoveStep job c MoveFaulted old new =
-    (s : ℕ) × Logged (entry.Fault job s c) [] old new × HeardStays old new × IsAt old.table c s
+    (s : ℕ) × Logged (entry.Fault job s c) [] old new × HeardStays old new × IsMoveAt old.table c s
 MoveStep job c MoveIdle old new = Unchanged old new × ((column_at old.table c).moving ≡ None)
 MoveStep job c MoveFull old new = FullStep old new
 

@@ -21,14 +21,14 @@ use Rattle.pot_steps.specs.GroupStep.{GroupState, LosesBlocks, FullStep, Settled
 
 -- The slot of an archive that an entry writes, or in which a write that failed may leave something,
 -- and all slots of an archive that it brings.
-abbrev pub Writes : Table → Entry → ℕ → ℕ → Type 0
-Writes t (entry.Mended job s c) number slot = (number ≡ serving_at t s c) × (slot ≡ s)
-Writes t (entry.Moved job s c copied) number slot =
+abbrev pub EntryWrites : Table → Entry → ℕ → ℕ → Type 0
+EntryWrites t (entry.Mended job s c) number slot = (number ≡ serving_at t s c) × (slot ≡ s)
+EntryWrites t (entry.Moved job s c copied) number slot =
     IsTrue copied × IsSomeAnd (column_at t c).moving (λ m. number ≡ m.to) × (slot ≡ s)
-Writes t (entry.Fault job s c) number slot = IsTrue (names (column_at t c) number) × (slot ≡ s)
-Writes t (entry.MoveBegin job c to) number slot = number ≡ to
-Writes t (entry.Swapped job c to) number slot = number ≡ to
-Writes t _ number slot = ⊥
+EntryWrites t (entry.Fault job s c) number slot = IsTrue (names (column_at t c) number) × (slot ≡ s)
+EntryWrites t (entry.MoveBegin job c to) number slot = number ≡ to
+EntryWrites t (entry.Swapped job c to) number slot = number ≡ to
+EntryWrites t _ number slot = ⊥
 
 -- One entry is logged, with the block that is handed in with it. Blocks may be lost before it does
 -- something and after. Elsewhere than where it writes blocks are lost, and nothing else.
@@ -43,7 +43,7 @@ pub record Logged (e : Entry) (given : List ℕ) (old new : GroupState) : Type 0
   pub lost : LosesBlocks old.held before
   pub acts : Acts old.table old.flights given e before now
   pub loses : LosesBlocks now new.held
-  pub elsewhere : (number slot : ℕ) (b : List ℕ) → (Writes old.table e number slot → ⊥)
+  pub elsewhere : (number slot : ℕ) (b : List ℕ) → (EntryWrites old.table e number slot → ⊥)
       → new.held number slot ≡ Some b → old.held number slot ≡ Some b
 
 -- one entry keeps every law
@@ -57,7 +57,7 @@ abbrev pub HeardStays : GroupState → GroupState → Type 0
 HeardStays old new = (number : ℕ) → new.heard number ≡ old.heard number
 
 -- the archive that serves the slot heard this sum, and no other archive heard one
-pub record Hears (s c : ℕ) (sum : List ℕ) (old new : GroupState) : Type 0 where
+pub record ArchiveHears (s c : ℕ) (sum : List ℕ) (old new : GroupState) : Type 0 where
   pub here : new.heard (serving_at old.table s c)
       ≡ old.heard (serving_at old.table s c) ++ (s, sum) ∷ []
   pub others : (number : ℕ) → number ≢ serving_at old.table s c
@@ -113,7 +113,7 @@ ComesTo t s next = IsSomeAnd (relay_at t s) (λ r. next_column t r ≡ next)
 
 -- the sum of the stripe's flight
 abbrev pub HearsSum : ℕ → ℕ → GroupState → GroupState → Type 0
-HearsSum s c old new = IsSomeAnd (flight_in old.flights s) (λ f. Hears s c f.sum old new)
+HearsSum s c old new = IsSomeAnd (flight_in old.flights s) (λ f. ArchiveHears s c f.sum old new)
 
 -- A fold that failed may have been heard. What a write that failed left in the target's slot, which
 -- is not Live, is not said.

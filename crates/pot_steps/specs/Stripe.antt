@@ -61,13 +61,13 @@ IsOld s c old = ((s.slots c ≡ Void) × (old ≡ zero_block)) ⊎ IsSound s c o
 
 -- the new block of a parity slot: its digest stands in the slot, which is Live only where the block
 -- was written
-pub record IsNew (s : Stripe) (c : ℕ) (new : List ℕ) : Type 0 where
+pub record IsNewParity (s : Stripe) (c : ℕ) (new : List ℕ) : Type 0 where
   pub digest : digest_in (s.slots c) ≡ Some (digest_of new)
   pub kept : (d : Digest) → s.slots c ≡ Live d → s.held c ≡ Some new
 
 -- A put of a block at column `c`: the data slot gets the block, P the old P XOR the block, and Q
 -- the old Q XOR 3^c times the block.
-pub record Puts (data_columns parity : ℕ) (s s' : Stripe) (c : ℕ) (block p q : List ℕ) : Type
+pub record PutsIntoStripe (data_columns parity : ℕ) (s s' : Stripe) (c : ℕ) (block p q : List ℕ) : Type
     0 where
   pub is_block : IsBlock block
   pub column : c < data_columns
@@ -75,8 +75,8 @@ pub record Puts (data_columns parity : ℕ) (s s' : Stripe) (c : ℕ) (block p q
   pub slot : s'.slots c ≡ Live (digest_of block)
   pub written : s'.held c ≡ Some block
   pub old_p : IsOld s data_columns p
-  pub new_p : IsNew s' data_columns (xor p block)
+  pub new_p : IsNewParity s' data_columns (xor p block)
   pub old_q : parity ≡ 2 → IsOld s (suc data_columns) q
-  pub new_q : parity ≡ 2 → IsNew s' (suc data_columns) (xor q (scaled (power 3 c) block))
+  pub new_q : parity ≡ 2 → IsNewParity s' (suc data_columns) (xor q (scaled (power 3 c) block))
   pub other_slots : (k : ℕ) → k < data_columns → k ≢ c → s'.slots k ≡ s.slots k
   pub other_held : (k : ℕ) → k < data_columns → k ≢ c → s'.held k ≡ s.held k

@@ -8,7 +8,7 @@ ghost use Rattle.pot_machine.specs.Table.{slot_at, relay_at, next_column};
 ghost use Rattle.pot_machine.specs.Machine.{Legal, after};
 ghost use Rattle.pot_steps.specs.Flight.{partial_of};
 ghost use Rattle.pot_steps.specs.Flights.{begun};
-ghost use Rattle.pot_steps.specs.Calls.{StandsIn, HopMeans, FinishMeans};
+ghost use Rattle.pot_steps.specs.Calls.{RelayStandsIn, HopMeans, FinishMeans};
 
 use crate::flight::Flight;
 use crate::weighing::weight_of;
@@ -70,7 +70,7 @@ pub fn begin(table: &mut GroupTable, job: u32, place: Place, blind: &Block) -> (
 /// The relay goes on where what was added is a block of the digest of that column's slot. Else it
 /// ends, and the flight is as it was.
 pub fn hop(table: &mut GroupTable, flight: &mut Flight, job: u32, folded: &Block) -> Hopped
-    requires stands { StandsIn table.old flight.old.relay }
+    requires stands { RelayStandsIn table.old flight.old.relay }
     requires next { IsSomeAnd (next_column table.old flight.old.relay)
         (λ c. IsTrue (is_live (slot_at table.old flight.old.relay.stripe c))) }
     ensures { HopMeans job folded.now result table.old table.new flight.old flight.new }
@@ -101,7 +101,7 @@ pub fn hop(table: &mut GroupTable, flight: &mut Flight, job: u32, folded: &Block
 
 /// What a relay that went over all its columns has.
 pub fn finish(table: &mut GroupTable, flight: &Flight, job: u32) -> Finished
-    requires stands { StandsIn table.old flight.now.relay }
+    requires stands { RelayStandsIn table.old flight.now.relay }
     requires next { next_column table.old flight.now.relay ≡ None }
     ensures { FinishMeans job result table.old table.new flight.now }
 {
@@ -164,7 +164,7 @@ fn digest_of_block(block: &Block) -> Digest
 
 /// Ends a relay whose next column has no block.
 pub fn give_up(table: &mut GroupTable, flight: Flight, job: u32) -> Entry
-    requires stands { StandsIn table.old flight.relay }
+    requires stands { RelayStandsIn table.old flight.relay }
     requires next { IsSome (next_column table.old flight.relay) }
     ensures entry { IsSomeAnd (next_column table.old flight.relay)
         (λ c. result ≡ entry.GaveUp job flight.relay.stripe flight.relay.target c) }

@@ -30,7 +30,7 @@ use Rattle.pot_store.specs.declared.renewing.RenewFileFault.TheVariants as renew
 use Rattle.pot_store.specs.declared.storing.Stored.{Stored}
 use Rattle.pot_store.specs.Drawing.{blocks_from}
 use Rattle.pot_store.specs.Puts.{ArePut, EndsPut, PutsEnd}
-use Rattle.pot_store.specs.Renewals.{PutsSplit, StopsAt}
+use Rattle.pot_store.specs.Renewals.{PutsSplit, StopsAtPut}
 use Rattle.pot_store.specs.Visits.{Came, LooksAgain, LooksOnce, look_logs}
 use Rattle.pot_store.specs.Visits as came
 use Rattle.pot_shared.specs.Works.{gained, of_job}
@@ -111,7 +111,7 @@ module _ (rack : Rack) (geometry : Geometry) (job : ℕ) where
       (cases_eq group g)
 
   module _ (file : List ℕ) (pads : Pads) (old new : GroupPasses) (worked : RowWroteOnlyFor (of_job job) old new) where
-    none_stop : (e : RenewFileFault) → StopsAt rack geometry job file pads e old new → BeganNone job old new
+    none_stop : (e : RenewFileFault) → StopsAtPut rack geometry job file pads e old new → BeganNone job old new
     none_stop e stop = record { worked = worked; none = λ alone g. none_end (blocks_from geometry file pads) stop.group stop.cause old new (stop.ends alone) g }
 
     -- the puts of a new split begin no relay

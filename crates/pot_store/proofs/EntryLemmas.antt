@@ -14,7 +14,7 @@ use Rattle.pot_machine.specs.Logs.{is_of, own}
 use Rattle.pot_machine.proofs.Logs.{own_append, own_cons}
 use Rattle.pot_index.specs.declared.record.Record.{Record}
 use Rattle.pot_replies.specs.Jobs.{is_look_at, is_stuck_at}
-use Rattle.pot_replies.specs.Fetches.{IsOfPlace, MayFetch, LooksTwice, Mends, AreReads}
+use Rattle.pot_replies.specs.Fetches.{IsOfPlace, MayFetch, LooksTwice, MendsOnce, AreReads}
 use Rattle.pot_store.specs.Visits.{Visit, MayVisit, IsVisit, is_begin_at, is_oddly_at, begun_next, begun_from, place_in, logged_at, logged_from}
 use Rattle.pot_store.proofs.LookLemmas.{in_group, in_other, same_place, both, hit, is_elsewhere, Apart, AreVisits, first_visit, rest_visits}
 
@@ -291,7 +291,7 @@ module _ (job : ℕ) (places : List Place) (n : ℕ) (vs : List Visit) (apart : 
 
   -- and of one that behind these visits begins no relay and logs no Stuck
   pub mends_then : (g : ℕ) (added more : List Entry) → own job added ≡ logged_from places g 0 vs ++ more → ((s c : ℕ) → filter (is_begin_at s c) more ≡ [])
-      → ((s c : ℕ) → filter (is_stuck_at s c) more ≡ []) → Mends job added
+      → ((s c : ℕ) → filter (is_stuck_at s c) more ≡ []) → MendsOnce job added
   mends_then g added more is quiet none_stuck = record {
     one_stuck = λ s c.
         (let e = ap (λ es. length (filter (is_stuck_at s c) es)) is in let l = one_stuck job places n vs apart fits are g s c in
@@ -302,7 +302,7 @@ module _ (job : ℕ) (places : List Place) (n : ℕ) (vs : List Visit) (apart : 
     none_again = λ s c f x t y z at none. none_again g added more is quiet s c f x t y z at;
   }
 
-  pub mends_from : (g : ℕ) (added : List Entry) → own job added ≡ logged_from places g 0 vs → Mends job added
+  pub mends_from : (g : ℕ) (added : List Entry) → own job added ≡ logged_from places g 0 vs → MendsOnce job added
   mends_from g added is = mends_then g added [] (is ∙ sym (append-nil (logged_from places g 0 vs))) (λ s c. refl) (λ s c. refl)
 
 -- what a fetch of the record may log

@@ -33,7 +33,7 @@ use Rattle.pot_store.specs.declared.fetching.FetchFault.{FetchFault}
 use Rattle.pot_store.specs.declared.fetching.FetchFault.TheVariants as fault
 use Rattle.pot_shared.specs.Works.{of_job, gained, known, section_of, JobWroteOnly, JobOnlyWriter, IsSettingOf}
 use Rattle.pot_store.specs.Visits.{Seen, Lost, Visit, IsReadAt, EndsGone, visit_at, came_at, place_in, logged_from, seen_in}
-use Rattle.pot_store.specs.Reads.{IsMade, AreMade, AreHad, IsStopped, IsFileIn, EndsFetch}
+use Rattle.pot_store.specs.Reads.{IsMade, AreMade, AreHad, IsFetchStopped, IsFileIn, EndsFetch}
 use Rattle.pot_store.specs.Fetches.{AreFilled, FetchRow, IsUnfinished}
 use Rattle.pot_shared.proofs.WorkLemmas.{known_work, known_none, own_more}
 use Rattle.pot_store.proofs.ReadLemmas.{both_gained, read_back, seen_parts}
@@ -146,7 +146,7 @@ module _ (job : ℕ) (name : List ℕ) (rack : Rack) (names turn : List TurnName
               (live_is (slot_at t p.stripe p.column) sound some);
         }
 
-    refused_row : (is : (e : FetchFault) × IsStopped kept 0 visits e w) → FetchRow s job name (Err is.0) all
+    refused_row : (is : (e : FetchFault) × IsFetchStopped kept 0 visits e w) → FetchRow s job name (Err is.0) all
     refused_row (fault.IndexLogFull, is) = absurd is.refused.1
     refused_row (fault.Absent, is) = absurd is.refused.1
     refused_row (fault.NoMemory, is) = absurd is.refused.1

@@ -13,7 +13,7 @@ use Rattle.pot_replies.specs.Joined.{Read, point_in, share_in, points_read, shar
 use Rattle.pot_shared.specs.Ready.{GroupPasses}
 use Rattle.pot_store.specs.declared.fetching.FetchFault.{FetchFault}
 use Rattle.pot_store.specs.Visits.{Visit, was_seen, block_in, came_at, seen_in, read_in}
-use Rattle.pot_store.specs.Reads.{IsHad, AreHad, IsStopped, IsRefused, content_at, fragments_in, object_at}
+use Rattle.pot_store.specs.Reads.{IsHad, AreHad, IsFetchStopped, IsRefused, content_at, fragments_in, object_at}
 use Rattle.pot_store.proofs.LookLemmas.{came_front, came_back}
 
 -- LISTS BY NUMBER
@@ -116,7 +116,7 @@ had_then kept m k vs ws cs ds one two =
 
 -- a stop behind more fragments
 pub stopped_then : (kept : Record) (base m : ℕ) (vs ws : List Visit) (cs : List (List ℕ)) (e : FetchFault) (w : GroupPasses)
-    → AreHad kept m vs cs → IsStopped kept (base + m) ws e w → IsStopped kept base (vs ++ ws) e w
+    → AreHad kept m vs cs → IsFetchStopped kept (base + m) ws e w → IsFetchStopped kept base (vs ++ ws) e w
 stopped_then kept base m vs ws cs e w had is = record {
   many = m + is.many;
   done = vs ++ is.done;
@@ -135,7 +135,7 @@ stopped_then kept base m vs ws cs e w had is = record {
 
 -- a stop at the very first
 pub stopped_first : (kept : Record) (i j : ℕ) (vs : List Visit) (e : FetchFault) (w : GroupPasses) → i < pieces_of kept.length → j < kept.geometry.fragments
-    → length vs ≡ kept.geometry.shards → IsRefused kept i j vs e w → IsStopped kept (i * kept.geometry.fragments + j) vs e w
+    → length vs ≡ kept.geometry.shards → IsRefused kept i j vs e w → IsFetchStopped kept (i * kept.geometry.fragments + j) vs e w
 stopped_first kept i j vs e w in_pieces in_fragments long refused = record {
   many = 0;
   done = [];

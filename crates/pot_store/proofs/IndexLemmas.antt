@@ -13,7 +13,7 @@ use Rattle.pot_index.specs.declared.fault.ReserveFault.TheVariants as reserve_fa
 use Rattle.pot_index.specs.Ending.{EndsAt}
 use Rattle.pot_index.specs.Entries as index
 use Rattle.pot_index.specs.Entries.{plain, bringing, entries, IsReserving, IsEnding}
-use Rattle.pot_index.specs.Index.{IndexView, Names, Replays, after}
+use Rattle.pot_index.specs.Index.{IndexView, Names, ReplaysIndex, after}
 use Rattle.pot_index.specs.Records.{mark_of}
 use Rattle.pot_worked.specs.WroteOnlyFor.{added}
 use Rattle.pot_worked.specs.Laws.{AllOf}
@@ -33,7 +33,7 @@ none_added : {X : Type 0} (xs es : List X) → xs ≡ xs ++ es → es ≡ []
 none_added xs es e = same_added xs es [] (append-nil xs ∙ e)
 
 -- what a log leads to
-pub names_to : (rack : Rack) (n : Names) (log : List Logged) (m : Names) → Replays rack n log m → names_after n log ≡ m
+pub names_to : (rack : Rack) (n : Names) (log : List Logged) (m : Names) → ReplaysIndex rack n log m → names_after n log ≡ m
 names_to rack n [] m is = sym is
 names_to rack n (x ∷ log) m is = names_to rack (after n x) log m is.1
 

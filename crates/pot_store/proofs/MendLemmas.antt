@@ -28,7 +28,7 @@ use Rattle.pot_replies.proofs.Excluding.{last_same}
 use Rattle.pot_shared.specs.MendCalls.{GoesOn, MendTurns, MendsPlace, begins, blind_at}
 use Rattle.pot_shared.specs.declared.mending.Mending.{Mending}
 use Rattle.pot_shared.proofs.CallLemmas.{ready_again, set_twice}
-use Rattle.pot_shared.specs.Adds.{Adds, IsFirst}
+use Rattle.pot_shared.specs.Adds.{Adds, IsFirstTableSeen}
 use Rattle.pot_shared.specs.Works.{gained}
 use Rattle.pot_store.specs.Visits.{Came, EndsGone, EndsSecond, LooksAgain, LooksOnce, MayVisit, MendsOn, ReadsBlock, SoundThenGone, look_logs, lost_if_gone, was_seen}
 use Rattle.pot_store.specs.Visits as came
@@ -280,7 +280,7 @@ module _ (told : Type 0) (rack : Rack) (names : List TurnName) (job : ℕ) (p : 
       ∙ (ap (λ l. l ++ entries_of t.others) (seen_parts job p.group old ends.mid ends.adds.worked)
       ∙ append_assoc (entries_of (view_at old p.group).seen) (gained old ends.mid p.group) (entries_of t.others))
 
-  first_whole : (first : Table) → IsFirst p.group old first → first ≡ t.old.first
+  first_whole : (first : Table) → IsFirstTableSeen p.group old first → first ≡ t.old.first
   first_whole first read =
       is_first (view_at ends.mid p.group).origin first (origin_of t.old) t.origin (subst (λ o. IfSome o (λ x. first ≡ x.first)) (sym (ends.adds.worked p.group).origin) read)
 

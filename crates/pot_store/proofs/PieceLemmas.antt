@@ -10,7 +10,7 @@ use Rattle.pot_rows.specs.Works.{AllIdle}
 use Rattle.pot_shared.specs.Ready.{GroupPasses}
 use Rattle.pot_store.specs.declared.fetching.FetchFault.{FetchFault}
 use Rattle.pot_store.specs.Visits.{Visit}
-use Rattle.pot_store.specs.Reads.{AreMade, AreHad, IsStopped, FragmentRead, PieceRead, FileRead, fragments_in, object_at}
+use Rattle.pot_store.specs.Reads.{AreMade, AreHad, IsFetchStopped, FragmentRead, PieceRead, FileRead, fragments_in, object_at}
 use Rattle.pot_store.proofs.ReadLemmas.{no_reads, reads_then}
 use Rattle.pot_store.proofs.GatherLemmas.{had_none, had_then, stopped_then, stopped_first, fragments_more, objects_more}
 
@@ -122,7 +122,7 @@ module _ (job : ℕ) (kept : Record) (i : ℕ) (bytes : List ℕ) (u v w : Group
     visits = sofar.visits ++ read.visits;
     reads = file_reads read.visits read.reads;
     ends = stopped_then kept 0 (i * kept.geometry.fragments) sofar.visits read.visits sofar.contents e w sofar.had
-        (let z : i * kept.geometry.fragments ≡ 0 + i * kept.geometry.fragments = omega arith in subst (λ m. IsStopped kept m read.visits e w) z read.ends);
+        (let z : i * kept.geometry.fragments ≡ 0 + i * kept.geometry.fragments = omega arith in subst (λ m. IsFetchStopped kept m read.visits e w) z read.ends);
   }
 
   pub file_end : (whole : List ℕ) → i ≡ pieces_of kept.length → whole ≡ take kept.length bytes → length whole ≡ kept.length → FileRead job kept whole (Ok tt) u v

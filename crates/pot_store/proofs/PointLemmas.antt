@@ -22,8 +22,8 @@ use Rattle.pot_store.specs.declared.points.Points.{Points}
 use Rattle.pot_store.specs.declared.shares.Shares.{Shares}
 use Rattle.pot_store.specs.declared.visiting.Point.TheVariants as point
 use Rattle.pot_store.specs.Visits.{Came, Unknown, Seen, Gone, Lost, Failed, Barred, was_seen, block_in, Visit, unvisited, MayVisit, LooksOnce, MendsOn, EndsVisit, EndsSecond, EndsInVain, EndsGone, look_logs, visit_at, came_at, place_in, seen_in}
-use Rattle.pot_store.specs.Points.{came_in, AreUnknown, IsSet, AreGathered}
-use Rattle.pot_store.specs.Reads.{AreMade, PointRead, AreTried, PointsTried, PointsBarred, PointsRead, IsShort, IsMissing, IsRefused, FragmentRead}
+use Rattle.pot_store.specs.Points.{came_in, AreUnknown, IsPointSet, AreGathered}
+use Rattle.pot_store.specs.Reads.{AreMade, PointRead, AreTried, PointsTried, PointsBarred, PointsRead, AreTooFewSeen, IsFileMissing, IsRefused, FragmentRead}
 use Rattle.pot_store.proofs.LookLemmas.{hit, visit_none, visit_set, visit_other, set_long}
 use Rattle.pot_store.proofs.FitLemmas.{GroupsDiffer}
 use Rattle.pot_store.proofs.ReadLemmas.{GoesOn, no_reads, reads_set}
@@ -123,7 +123,7 @@ module _ (vs : List Visit) (x : ℕ) (v : Visit) (lt : x < length vs) where
   other_came y ne = ap (λ (z : Visit). z.came) (visit_other vs x y v ne)
 
   -- the points know it too
-  set_same : (old new : Points) → ((y : ℕ) → came_in old y ≡ came_at vs y) → IsSet x v.came old new → (y : ℕ) → came_in new y ≡ came_at (slice_set vs x v) y
+  set_same : (old new : Points) → ((y : ℕ) → came_in old y ≡ came_at vs y) → IsPointSet x v.came old new → (y : ℕ) → came_in new y ≡ came_at (slice_set vs x v) y
   set_same old new same (here, others) y = ⊎_elim
       (λ (e : y ≡ x). subst (λ z. came_in new z ≡ came_at (slice_set vs x v) z) (sym e) (here ∙ sym set_came))
       (λ (ne : y ≢ x). others y ne ∙ (same y ∙ sym (other_came y ne)))
@@ -398,7 +398,7 @@ module _ (job : ℕ) (kept : Record) (i j : ℕ) (old : List ℕ) (u w : GroupPa
     many : count shards (λ y. was_seen (came_in points y)) ≡ seen_in shards read.visits
     many = many_seen shards points read.visits read.same
 
-    is_short : seen_in shards read.visits < need → IsShort shards need read.visits
+    is_short : seen_in shards read.visits < need → AreTooFewSeen shards need read.visits
     is_short fewer = ⊎_elim
         (λ (enough : seen_in shards read.visits ≡ need). absurd (omega (arith, enough, fewer)))
         (λ (h : (seen_in shards read.visits < need) × ((y : ℕ) → y < shards → (came_at read.visits y ≢ Unknown) × (y < shards → came_at read.visits y ≢ Gone))).
@@ -410,17 +410,17 @@ module _ (job : ℕ) (kept : Record) (i j : ℕ) (old : List ℕ) (u w : GroupPa
         })
         read.tried
 
-    missing_is : (e : FetchFault) → IsShort shards need read.visits → IsMissing kept from i j (came_in points) e → IsRefused kept i j read.visits e w
-    missing_is (fault.Faulted group column) short is = (short, subst (λ c. IsMissing kept from i j c (fault.Faulted group column)) (came_same points read.visits read.same) is)
+    missing_is : (e : FetchFault) → AreTooFewSeen shards need read.visits → IsFileMissing kept from i j (came_in points) e → IsRefused kept i j read.visits e w
+    missing_is (fault.Faulted group column) short is = (short, subst (λ c. IsFileMissing kept from i j c (fault.Faulted group column)) (came_same points read.visits read.same) is)
     missing_is (fault.Lost piece fragment have m) short is =
-        (short, subst (λ c. IsMissing kept from i j c (fault.Lost piece fragment have m)) (came_same points read.visits read.same) is)
+        (short, subst (λ c. IsFileMissing kept from i j c (fault.Lost piece fragment have m)) (came_same points read.visits read.same) is)
     missing_is (fault.LogFull group) short is = absurd is
     missing_is fault.IndexLogFull short is = absurd is
     missing_is fault.Absent short is = absurd is
     missing_is (fault.Odd wanted found) short is = absurd is
     missing_is fault.NoMemory short is = absurd is
 
-    pub fragment_missing : (e : FetchFault) → count shards (λ y. was_seen (came_in points y)) < need → IsMissing kept from i j (came_in points) e → FragmentRead job kept i j old old (Err e) u w
+    pub fragment_missing : (e : FetchFault) → count shards (λ y. was_seen (came_in points y)) < need → IsFileMissing kept from i j (came_in points) e → FragmentRead job kept i j old old (Err e) u w
     fragment_missing e fewer missing = record {
       visits = read.visits;
       reads = read.reads;

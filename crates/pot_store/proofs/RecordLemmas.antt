@@ -11,7 +11,7 @@ use Rattle.pot_shared.specs.Ready.{GroupPasses}
 use Rattle.pot_store.specs.declared.fetching.FetchFault.{FetchFault}
 use Rattle.pot_store.specs.declared.fetching.FetchFault.TheVariants as fault
 use Rattle.pot_store.specs.Visits.{Visit}
-use Rattle.pot_store.specs.Reads.{IsStopped, EndsFetch, FileRead, RecordRead}
+use Rattle.pot_store.specs.Reads.{IsFetchStopped, EndsFetch, FileRead, RecordRead}
 use Rattle.pot_store.proofs.ReadLemmas.{no_reads}
 
 -- what a comparison of digests tells
@@ -32,7 +32,7 @@ digests_differ a b told same = go (pointwise nat_eq a.bytes b.bytes) refl told
 pub record_none : (job : ℕ) (kept : Record) (u : GroupPasses) → AllIdle u → RecordRead job kept (Err fault.NoMemory) u u
 record_none job kept u idle = record { visits = []; reads = no_reads job kept.places 0 0 u idle; ends = refl }
 
-stopped_ends : (kept : Record) (visits : List Visit) (e : FetchFault) (w : GroupPasses) → IsStopped kept 0 visits e w → EndsFetch kept visits (Err e) w
+stopped_ends : (kept : Record) (visits : List Visit) (e : FetchFault) (w : GroupPasses) → IsFetchStopped kept 0 visits e w → EndsFetch kept visits (Err e) w
 stopped_ends kept visits fault.IndexLogFull w is = is
 stopped_ends kept visits fault.Absent w is = is
 stopped_ends kept visits (fault.Faulted group column) w is = is

@@ -37,7 +37,7 @@ use Rattle.pot_index.specs.Calls.{Renews}
 use Rattle.pot_index.specs.Entries as index
 use Rattle.pot_index.specs.Entries.{plain, bringing}
 use Rattle.pot_index.specs.Fits.{FitsGeometry, FitsRack, FitsSplit, group_of}
-use Rattle.pot_index.specs.Index.{IndexView, Names, names_read, IsRecordOf, Replays}
+use Rattle.pot_index.specs.Index.{IndexView, Names, names_read, IsRecordOf, ReplaysIndex}
 use Rattle.pot_index.proofs.NamesKept.{went_on, leads_once}
 use Rattle.pot_index.proofs.RecordLaws.{one_record, splits_stay}
 use Rattle.pot_index.specs.Records.{mark_of, renewed}
@@ -52,7 +52,7 @@ use Rattle.pot_replies.specs.Jobs.{is_stuck_at}
 use Rattle.pot_replies.specs.Sections.{Section, LogPoint, names_after}
 use Rattle.pot_replies.specs.Settings.{Setting}
 use Rattle.pot_replies.specs.Stores.{Placed, Puts, IsUnkept, in_group, place_of}
-use Rattle.pot_replies.specs.Fetches.{FoundThen, Found, IsFile, Mends}
+use Rattle.pot_replies.specs.Fetches.{FoundThen, Found, IsFile, MendsOnce}
 use Rattle.pot_replies.specs.Renewals.{Fetched, AllPut, IsOften, RenewStops, IsRenewFault, IsRenewFull, IsRenewLogFull, IsPutFault}
 use Rattle.pot_shared.specs.Members.{entries_of}
 use Rattle.pot_shared.specs.Ready.{GroupPass, GroupPasses, AreReady}
@@ -69,7 +69,7 @@ use Rattle.pot_store.specs.Drawing.{Drawn, all_blocks, blocks_from, count_of, ra
 use Rattle.pot_store.specs.Fetches.{AreFilled, FetchRow}
 use Rattle.pot_store.specs.Puts.{ArePut, EndsFull, EndsLogFull, EndsPut, PutsEnd}
 use Rattle.pot_store.specs.Reads.{AreMade, EndsFetch}
-use Rattle.pot_store.specs.Renewals.{of_find, of_fetch, of_put, of_renew, IsSplit, StopsAt, PutsSplit, RenewRow, RenewsFrom}
+use Rattle.pot_store.specs.Renewals.{of_find, of_fetch, of_put, of_renew, IsFileSplit, StopsAtPut, PutsSplit, RenewRow, RenewsFrom}
 use Rattle.pot_store.specs.Stores.{IsPlan}
 use Rattle.pot_store.specs.Visits.{Visit, is_begin_at}
 use Rattle.pot_shared.specs.Works.{of_job, gained, known, section_of, JobWroteOnly, JobOnlyWriter, IsSettingOf}
@@ -90,7 +90,7 @@ use Rattle.pot_shared.proofs.WorkLemmas.{all_none, all_one, known_work, known_no
 -- a split that was put by a plan
 pub is_split : (rack : Rack) (geometry : Geometry) (job : ℕ) (file : List ℕ) (pads : Pads) (pieces shards : ℕ) (d : Drawn) (none places : List Place) (old new : GroupPasses)
     → FitsGeometry rack geometry → AreBytes file → IsPlan geometry file pads pieces shards d none → length places ≡ shards → ArePut rack geometry job (all_blocks d) places old new
-    → IsSplit rack geometry job file pads (record { pieces = pieces; shards = shards }) (record { geometry = geometry; places = places }) old new
+    → IsFileSplit rack geometry job file pads (record { pieces = pieces; shards = shards }) (record { geometry = geometry; places = places }) old new
 is_split rack geometry job file pads pieces shards d none places old new fits_rack bytes plan long are =
     let puts : ArePut rack geometry job (blocks_from geometry file pads) places old new = subst (λ (x : Drawn). ArePut rack geometry job (all_blocks x) places old new) plan.drawing are in
     let many : length places ≡ pieces_of (length file) * (geometry.fragments * geometry.shards) = long ∙ (plan.shards_is ∙ ap count_of plan.drawing) in
@@ -108,7 +108,7 @@ is_split rack geometry job file pads pieces shards d none places old new fits_ra
 
 -- puts that were made
 pub made_split : (rack : Rack) (geometry : Geometry) (job : ℕ) (file : List ℕ) (pads : Pads) (x : Stored × Split) (old new : GroupPasses) → PutsSplit rack geometry job file pads (Ok x) old new
-    → IsSplit rack geometry job file pads x.0 x.1 old new
+    → IsFileSplit rack geometry job file pads x.0 x.1 old new
 made_split rack geometry job file pads (x, split) old new is = is
 
 -- puts that stopped
@@ -241,7 +241,7 @@ module _ (job : ℕ) (name : List ℕ) (rack : Rack) (names turn : List TurnName
     fits_here : FitsRack rack kept
     fits_here = fits job name rack names turn u v w ui wi kept ready count index_ready knows call visits reads
 
-    whole_mends : ((g : ℕ) → IsQuiet (own job (gained w y g))) → (g : ℕ) → Mends job (all_section.added g)
+    whole_mends : ((g : ℕ) → IsQuiet (own job (gained w y g))) → (g : ℕ) → MendsOnce job (all_section.added g)
     whole_mends quiet g =
         mends_then job kept.places (length kept.places) visits (apart rack kept fits_here)
         (file_room job name rack names turn u v w ui wi kept ready count index_ready knows call visits reads both_alone.0 s set mends filled ends.0 bytes.items ends.1)
@@ -456,9 +456,9 @@ module _ (job : ℕ) (name : List ℕ) (rack : Rack) (names turn : List TurnName
       → ((r : Record) → r.length ≡ length file → r.digest ≡ digest_of file → SeesFile groups (renewed r split)) → MayRenewBy rack name split groups wi
   may_renew file split groups long digest fits_it sees = (
     left.now,
-    subst (λ (r : Rack). Replays r (names_read (records_in (view_at wi 0).origin)) (view_at wi 0).seen left.now) its_rack
-        (subst (λ (rs : List Record). Replays left.rack (names_read rs) (view_at wi 0).seen left.now) (sym its_read)
-        (subst (λ (l : List Logged). Replays left.rack (names_read left.read) l left.now) (sym its_seen) call.turn.is_new.replays)),
+    subst (λ (r : Rack). ReplaysIndex r (names_read (records_in (view_at wi 0).origin)) (view_at wi 0).seen left.now) its_rack
+        (subst (λ (rs : List Record). ReplaysIndex left.rack (names_read rs) (view_at wi 0).seen left.now) (sym its_read)
+        (subst (λ (l : List Logged). ReplaysIndex left.rack (names_read left.read) l left.now) (sym its_seen) call.turn.is_new.replays)),
     (
       kept,
       still_here,
@@ -487,13 +487,13 @@ module _ (job : ℕ) (name : List ℕ) (rack : Rack) (names turn : List TurnName
     -- a record keeps its file
     pub same_file : (r : Record) → IsRecordOf later.turn.old.now name r → r.length ≡ kept.length
     same_file r is =
-        let all : Replays left.rack (names_read left.read) (left.log ++ later.turn.others) later.turn.old.now =
-        subst (λ (l : List Logged). Replays left.rack (names_read left.read) l later.turn.old.now) (later.turn.transition ∙ ap (λ l. l ++ later.turn.others) its_seen)
-        (subst (λ (rs : List Record). Replays left.rack (names_read rs) later.turn.old.log later.turn.old.now) later_read
-        (subst (λ (k : Rack). Replays k (names_read later.turn.old.read) later.turn.old.log later.turn.old.now) later_rack later.turn.is_old.replays)) in
+        let all : ReplaysIndex left.rack (names_read left.read) (left.log ++ later.turn.others) later.turn.old.now =
+        subst (λ (l : List Logged). ReplaysIndex left.rack (names_read left.read) l later.turn.old.now) (later.turn.transition ∙ ap (λ l. l ++ later.turn.others) its_seen)
+        (subst (λ (rs : List Record). ReplaysIndex left.rack (names_read rs) later.turn.old.log later.turn.old.now) later_read
+        (subst (λ (k : Rack). ReplaysIndex k (names_read later.turn.old.read) later.turn.old.log later.turn.old.now) later_rack later.turn.is_old.replays)) in
         let cut = went_on left.rack (names_read left.read) later.turn.old.now left.log later.turn.others all in
         let same : cut.0 ≡ left.now = leads_once left.rack (names_read left.read) cut.0 left.now left.log cut.1 call.turn.is_new.replays in
-        let rest : Replays left.rack left.now later.turn.others later.turn.old.now = subst (λ (n : Names). Replays left.rack n later.turn.others later.turn.old.now) same cut.2 in
+        let rest : ReplaysIndex left.rack left.now later.turn.others later.turn.old.now = subst (λ (n : Names). ReplaysIndex left.rack n later.turn.others later.turn.old.now) same cut.2 in
         let it = splits_stay left.rack left.now later.turn.old.now later.turn.others kept call.turn.is_new.names rest still_here.0 in
         let one : it.0 ≡ r = one_record later.turn.old.now.published it.0 r later.turn.is_old.names.ascends it.1 is.0 (it.2.name ∙ (still_here.1 ∙ sym is.1)) in
         sym (ap (λ (q : Record). q.length) one) ∙ it.2.long
@@ -522,7 +522,7 @@ module _ (job : ℕ) (name : List ℕ) (rack : Rack) (names turn : List TurnName
 
   module _ (alone : JobOnlyWriter job (known u ui) (known y yi)) (s : Setting) (set : IsSettingOf s rack (known u ui)) (mends : s.mends ≡ true) (filled : AreFilled s)
       (bytes : Vec ℕ Global) (ends : EndsFetch kept visits (Ok bytes) w) (few : length kept.older < 15) (geometry : Geometry) (pads : Pads) (draws : RenewsFrom s pads geometry job)
-      (made : Stored) (is : IsSplit rack geometry job bytes.items pads made split w x) where
+      (made : Stored) (is : IsFileSplit rack geometry job bytes.items pads made split w x) where
     abbrev its_parts : JobOnlyWriter job (known u ui) (known w wi) × JobOnlyWriter job (known w wi) (known y yi)
     its_parts = both_alone job name rack names turn u v w ui wi kept ready count index_ready knows call visits reads ready_w y yi put_behind alone s set mends filled bytes ends few
 
@@ -651,7 +651,7 @@ module _ (job : ℕ) (name : List ℕ) (rack : Rack) (names turn : List TurnName
 
   module _ (alone : JobOnlyWriter job (known u ui) (known x wi)) (s : Setting) (set : IsSettingOf s rack (known u ui)) (mends : s.mends ≡ true) (filled : AreFilled s)
       (bytes : Vec ℕ Global) (ends : EndsFetch kept visits (Ok bytes) w) (few : length kept.older < 15) (geometry : Geometry) (pads : Pads) (draws : RenewsFrom s pads geometry job) where
-    stops_row : (e : RenewFileFault) → StopsAt rack geometry job bytes.items pads e w x → RenewRow s job name geometry (Err e) (section_of (known u ui) (known x wi))
+    stops_row : (e : RenewFileFault) → StopsAtPut rack geometry job bytes.items pads e w x → RenewRow s job name geometry (Err e) (section_of (known u ui) (known x wi))
     stops_row e is =
         subst (λ (f : RenewFileFault). RenewRow s job name geometry (Err f) (section_of (known u ui) (known x wi))) (sym is.is)
         (stopped_row job name rack names turn u v w ui wi kept ready count index_ready knows call visits reads ready_w x wi puts_behind alone s set mends filled bytes ends few geometry pads draws is.group is.cause

@@ -24,7 +24,7 @@ use Rattle.pot_machine.specs.Logs.{own}
 use Rattle.pot_replies.specs.Sections.{Section, mine, names_after}
 use Rattle.pot_replies.specs.Settings.{Setting}
 use Rattle.pot_replies.specs.Listings.{IsIndexFull}
-use Rattle.pot_replies.specs.Fetches.{IsAbsent}
+use Rattle.pot_replies.specs.Fetches.{IsFetchAbsent}
 use Rattle.pot_shared.specs.declared.catalog.CatalogOrigin.{CatalogOrigin}
 use Rattle.pot_shared.specs.Ready.{GroupPasses, AreReady}
 use Rattle.pot_shared.specs.Seen.{RowKnowsMore}
@@ -131,7 +131,7 @@ module _ (job : ℕ) (name : List ℕ) (rack : Rack) (names turn : List TurnName
     logged : index.own job lone.index_added ≡ found_entries job name (Err e)
     logged = search_own job name rack names turn ui wi v (Err e) index_ready call alone.index
 
-    pub absent_row : e ≡ find.Absent → IsAbsent job name (mine job lone)
+    pub absent_row : e ≡ find.Absent → IsFetchAbsent job name (mine job lone)
     absent_row is = record { index = logged ∙ ap (λ x. found_entries job name (Err x)) is; groups = none_logged }
 
     pub silent_row : e ≡ find.NoMemory → (s : Setting) → IsUnfinished s job name lone

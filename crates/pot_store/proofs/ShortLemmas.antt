@@ -19,7 +19,7 @@ use Rattle.pot_replies.specs.Settings.{Setting}
 use Rattle.pot_replies.specs.Fetches.{Found, FetchEntries, IsLost, IsFetchFault, IsFetchLogFull, FirstShort, HopelessIf, IsHopeless, FailsAt, LooksTwice, has_seen}
 use Rattle.pot_shared.specs.Ready.{GroupPasses}
 use Rattle.pot_store.specs.Visits.{Came, Unknown, Seen, Gone, Lost, Failed, Barred, Visit, IsVisit, EndsVisit, EndsInVain, EndsGone, was_seen, visit_at, came_at, place_in, logged_from, seen_in}
-use Rattle.pot_store.specs.Reads.{IsFirstFailed, NoneFailed, IsShort, IsBarred, AreHad}
+use Rattle.pot_store.specs.Reads.{IsFirstFailed, NoneFailed, AreTooFewSeen, IsBarred, AreHad}
 use Rattle.pot_store.proofs.LookLemmas.{AreVisits, visit_front, visit_back, logged_last}
 use Rattle.pot_store.proofs.FitLemmas.{fragment_within, point_within, points_within, groups_differ}
 use Rattle.pot_store.proofs.GoneLemmas.{GoneTwice, gone_again}
@@ -146,7 +146,7 @@ module _ (s : Setting) (rack : Rack) (job : ℕ) (name : List ℕ) (kept : Recor
   seen_not : (x : ℕ) → x < shards → has_seen (mine job w).own (place x) ≡ false → was_seen (came_at last x) ≡ false
   seen_not x lt unseen = sym (its_seen x lt) ∙ unseen
 
-  is_lost : (x : ℕ) → x < shards → IsShort shards kept.geometry.need last → has_seen (mine job w).own (place x) ≡ false → ((k : ℕ) → came_at last x ≢ Failed k) → came_at last x ≡ Lost
+  is_lost : (x : ℕ) → x < shards → AreTooFewSeen shards kept.geometry.need last → has_seen (mine job w).own (place x) ≡ false → ((k : ℕ) → came_at last x ≢ Failed k) → came_at last x ≡ Lost
   is_lost x lt is unseen sound = lost_is (came_at last x) (seen_not x lt unseen) (is.looked x lt) (is.mended x lt) (is.room x lt) sound
 
   failed_fails : (x k : ℕ) → x < shards → came_at last x ≡ Failed k → FailsAt job (mine job w) (place x) k
@@ -174,7 +174,7 @@ module _ (s : Setting) (rack : Rack) (job : ℕ) (name : List ℕ) (kept : Recor
         (λ ends. twice b (point_within rack kept fits f x f_within lt) within (ap (λ (v : Visit). v.came) (point_is x) ∙ is) (subst (λ (v : Visit). EndsGone job (place x) v.entries) (sym (point_is x)) ends))
         (its_entries.reads.looks (place x).group (place x).stripe (place x).column))
 
-    pub lost_row : Found s job name kept w → IsShort shards kept.geometry.need last → NoneFailed shards (came_at last)
+    pub lost_row : Found s job name kept w → AreTooFewSeen shards kept.geometry.need last → NoneFailed shards (came_at last)
         → IsLost s job name i j (seen_in shards last) kept.geometry.need w
     lost_row found is sound = record {
       kept = kept;
@@ -185,7 +185,7 @@ module _ (s : Setting) (rack : Rack) (job : ℕ) (name : List ℕ) (kept : Recor
       hopeless = λ x unseen. lost_hopeless x unseen.0 (is_lost x unseen.0 is unseen.1 (sound x unseen.0));
     }
 
-    pub fault_row : Found s job name kept w → IsShort shards kept.geometry.need last → (x column : ℕ) → IsFirstFailed shards (came_at last) x column
+    pub fault_row : Found s job name kept w → AreTooFewSeen shards kept.geometry.need last → (x column : ℕ) → IsFirstFailed shards (came_at last) x column
         → IsFetchFault s job name (place_in kept.places (f * shards + x)).group column w
     fault_row found is x column (lt, fails, before) = record {
       kept = kept;

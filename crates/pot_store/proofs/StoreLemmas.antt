@@ -37,7 +37,7 @@ use Rattle.pot_rows.proofs.WorkLemmas.{row_work_in_parts, row_alone_in_parts}
 use Rattle.pot_replies.specs.Settings.{Setting}
 use Rattle.pot_replies.specs.Sections.{mine, IsSilent, LogPoint, names_after}
 use Rattle.pot_replies.specs.Renewals.{IsPutFault}
-use Rattle.pot_replies.specs.Stores.{Placed, Puts, IsStored, IsStoreFault, IsFull, IsStoreLogFull, IsUnkept, Stops, in_group, place_of}
+use Rattle.pot_replies.specs.Stores.{Placed, Puts, IsStored, IsStoreFault, IsStoreFull, IsStoreLogFull, IsUnkept, StopsStore, in_group, place_of}
 use Rattle.pot_shared.specs.declared.member.GroupOrigin.{GroupOrigin}
 use Rattle.pot_shared.specs.Members.{entries_of}
 use Rattle.pot_shared.specs.Ready.{GroupPasses}
@@ -222,7 +222,7 @@ module _ (job : ℕ) (name file : List ℕ) (rack : Rack) (s : Setting) (pads : 
     (short : length file ≤ longest) (racks : s.rack ≡ rack) (draws : DrawsFrom s pads job file) (same : map digest_of blocks ≡ map digest_of (drawn_blocks s pads file))
     (index : index.own job (added (view_at i0 0) (view_at i3 0)) ≡ plain (entry.Reserve job name) ∷ plain (entry.Abandon job name) ∷ [])
     (ends : PutsEnd rack rack.geometry job blocks group cause g0 g2) where
-  abbrev stops : (last : List Entry) → ends.last ≡ last → Stops s job name file group last (mine job (section_of (known g0 i0) (known g2 i3)))
+  abbrev stops : (last : List Entry) → ends.last ≡ last → StopsStore s job name file group last (mine job (section_of (known g0 i0) (known g2 i3)))
   stops last is = record {
     short = short;
     placed = ends.placed;
@@ -258,7 +258,7 @@ module _ (job : ℕ) (name file : List ℕ) (rack : Rack) (s : Setting) (pads : 
     long : length whole ≡ length (view_at g2 group).seen
     long = seen_length s rack job g0 g2 i0 group within set worked ends.origin ends.named
 
-    full_row : (passed : List Passed) → ends.last ≡ skips job passed → EndsFull ends.origin.first passed (view_at g2 group) → IsFull s job name file group (section_of (known g0 i0) (known g2 i3))
+    full_row : (passed : List Passed) → ends.last ≡ skips job passed → EndsFull ends.origin.first passed (view_at g2 group) → IsStoreFull s job name file group (section_of (known g0 i0) (known g2 i3))
     full_row passed is (behind, room) = record {
       passed = passed;
       stops = stops (skips job passed) is;

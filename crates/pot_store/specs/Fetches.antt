@@ -8,7 +8,7 @@ use Rattle.pot_index.specs.declared.record.Record.{Record}
 use Rattle.pot_replies.specs.Settings.{Setting}
 use Rattle.pot_replies.specs.Sections.{Section, mine, IsSilent}
 use Rattle.pot_replies.specs.Listings.{IsIndexFull}
-use Rattle.pot_replies.specs.Fetches.{IsAbsent, Found, FetchEntries, IsFile, IsOdd, IsLost}
+use Rattle.pot_replies.specs.Fetches.{IsFetchAbsent, Found, FetchEntries, IsFile, IsOdd, IsLost}
 use Rattle.pot_replies.specs.Fetches.{IsFetchFault, IsFetchLogFull}
 use Rattle.pot_store.specs.declared.fetching.FetchFault.{FetchFault}
 use Rattle.pot_store.specs.declared.fetching.FetchFault.TheVariants as fault
@@ -28,7 +28,7 @@ IsUnfinished s job name w =
 abbrev pub FetchRow : Setting → ℕ → List ℕ → Result (Vec ℕ Global) FetchFault → Section → Type 0
 FetchRow s job name (Ok bytes) w = IsFile s job name bytes.items w
 FetchRow s job name (Err fault.IndexLogFull) w = IsIndexFull s 1 job w
-FetchRow s job name (Err fault.Absent) w = IsAbsent job name (mine job w)
+FetchRow s job name (Err fault.Absent) w = IsFetchAbsent job name (mine job w)
 FetchRow s job name (Err (fault.Faulted group column)) w = IsFetchFault s job name group column w
 FetchRow s job name (Err (fault.Lost piece fragment have need)) w =
     (j : ℕ) × (fragment ≡ suc j) × IsLost s job name piece j have need w

@@ -17,8 +17,8 @@ abbrev pub AreUnknown : Points → Type 0
 AreUnknown s = (x : ℕ) → came_in s x ≡ visits.Unknown
 
 -- this came of one point, and the others are as they were
-abbrev pub IsSet : ℕ → Came → Points → Points → Type 0
-IsSet x came old new = (came_in new x ≡ came) × ((y : ℕ) → y ≢ x → came_in new y ≡ came_in old y)
+abbrev pub IsPointSet : ℕ → Came → Points → Points → Type 0
+IsPointSet x came old new = (came_in new x ≡ came) × ((y : ℕ) → y ≢ x → came_in new y ≡ came_in old y)
 
 -- the shares are those of the first n points
 abbrev pub AreGathered : ℕ → Points → Shares → Type 0

@@ -19,7 +19,7 @@ use Rattle.pot_replies.specs.Joined.{points_read, shares_read}
 use Rattle.pot_store.specs.declared.fetching.FetchFault.{FetchFault}
 use Rattle.pot_store.specs.declared.fetching.FetchFault.TheVariants as fault
 use Rattle.pot_store.specs.declared.points.Points.{Points}
-use Rattle.pot_store.specs.Points.{came_in, IsSet}
+use Rattle.pot_store.specs.Points.{came_in, IsPointSet}
 use Rattle.pot_store.specs.Visits.{Came, Unknown, Gone, Failed, Barred, was_seen, Visit, IsVisit}
 use Rattle.pot_store.specs.Visits.{ReadsBlock, IsGoneAgain, IsFullLog, visit_at, came_at, place_in}
 use Rattle.pot_store.specs.Visits.{logged_from, seen_in, read_in}
@@ -53,7 +53,7 @@ IsFragmentFrom kept from =
 
 -- what came of a point was noted; or a call was refused
 abbrev pub IsNoted : Bool → ℕ → Came → Points → Points → Type 0
-IsNoted true x came old new = IsSet x came old new
+IsNoted true x came old new = IsPointSet x came old new
 IsNoted false x came old new = came ≡ Barred
 
 -- one step at a point
@@ -109,7 +109,7 @@ PointsRead job places from n need x points (Err _) v w = ⊥
 -- FRAGMENTS
 
 -- no more of the points can be seen, but for those at which an archive failed
-pub record IsShort (n need : ℕ) (visits : List Visit) : Type 0 where
+pub record AreTooFewSeen (n need : ℕ) (visits : List Visit) : Type 0 where
   pub fewer : seen_in n visits < need
   pub looked : (x : ℕ) → x < n → came_at visits x ≢ Unknown
   pub mended : (x : ℕ) → x < n → came_at visits x ≢ Gone
@@ -124,15 +124,15 @@ abbrev pub NoneFailed : ℕ → (ℕ → Came) → Type 0
 NoneFailed n came = (x : ℕ) → x < n → (k : ℕ) → came x ≢ Failed k
 
 -- the answer where too few points were seen: the first of the faults, and else that they are lost
-abbrev pub IsMissing : Record → ℕ → ℕ → ℕ → (ℕ → Came) → FetchFault → Type 0
-IsMissing kept from piece fragment came (fault.Faulted group column) =
+abbrev pub IsFileMissing : Record → ℕ → ℕ → ℕ → (ℕ → Came) → FetchFault → Type 0
+IsFileMissing kept from piece fragment came (fault.Faulted group column) =
     (x : ℕ) × IsFirstFailed kept.geometry.shards came x column
     × (group ≡ (place_in kept.places (from + x)).group)
-IsMissing kept from piece fragment came (fault.Lost i number have need) =
+IsFileMissing kept from piece fragment came (fault.Lost i number have need) =
     NoneFailed kept.geometry.shards came
     × (i ≡ piece) × (number ≡ suc fragment)
     × (have ≡ count kept.geometry.shards (λ x. was_seen (came x))) × (need ≡ kept.geometry.need)
-IsMissing kept from piece fragment came _ = ⊥
+IsFileMissing kept from piece fragment came _ = ⊥
 
 -- why fragment j of piece i was not had
 abbrev pub IsRefused : Record → ℕ → ℕ → List Visit → FetchFault → GroupPasses → Type 0
@@ -140,8 +140,8 @@ IsRefused kept i j visits (fault.LogFull group) w =
     IsBarred kept.places ((i * kept.geometry.fragments + j) * kept.geometry.shards)
     kept.geometry.shards kept.geometry.need visits group w
 IsRefused kept i j visits e w =
-    IsShort kept.geometry.shards kept.geometry.need visits
-    × IsMissing kept ((i * kept.geometry.fragments + j) * kept.geometry.shards) i j (came_at visits)
+    AreTooFewSeen kept.geometry.shards kept.geometry.need visits
+    × IsFileMissing kept ((i * kept.geometry.fragments + j) * kept.geometry.shards) i j (came_at visits)
     e
 
 -- a fragment was had: as many points as are needed, and the content that their shares are joined to
@@ -163,7 +163,7 @@ pub record AreHad (kept : Record) (many : ℕ) (visits : List Visit)
       → IsHad kept.geometry.shards kept.geometry.need visits f (content_at contents f)
 
 -- Behind `base` fragments some more were had, and one was not.
-pub record IsStopped (kept : Record) (base : ℕ) (visits : List Visit) (e : FetchFault)
+pub record IsFetchStopped (kept : Record) (base : ℕ) (visits : List Visit) (e : FetchFault)
     (w : GroupPasses) : Type 0 where
   pub many : ℕ
   pub done : List Visit
@@ -204,7 +204,7 @@ abbrev pub EndsPiece : Record → ℕ → List Visit → Result (List ℕ) Fetch
 EndsPiece kept i visits (Ok object) w =
     (contents : List (List ℕ)) × AreHad kept kept.geometry.fragments visits contents
     × (object ≡ xor_of (content_at contents) kept.geometry.fragments)
-EndsPiece kept i visits (Err e) w = IsStopped kept (i * kept.geometry.fragments) visits e w
+EndsPiece kept i visits (Err e) w = IsFetchStopped kept (i * kept.geometry.fragments) visits e w
 
 pub record PieceRead (job : ℕ) (kept : Record) (i : ℕ) (result : Result (List ℕ) FetchFault)
     (v w : GroupPasses) : Type 0 where
@@ -228,7 +228,7 @@ abbrev pub EndsFile : Record → List Visit → List ℕ → Result (Unit {0}) F
     → Type 0
 EndsFile kept visits bytes (Ok u) w =
     (contents : List (List ℕ)) × IsFileIn kept visits contents bytes
-EndsFile kept visits bytes (Err e) w = IsStopped kept 0 visits e w
+EndsFile kept visits bytes (Err e) w = IsFetchStopped kept 0 visits e w
 
 pub record FileRead (job : ℕ) (kept : Record) (bytes : List ℕ)
     (result : Result (Unit {0}) FetchFault) (v w : GroupPasses) : Type 0 where
@@ -246,7 +246,7 @@ EndsFetch kept visits (Err (fault.Odd wanted found)) w =
     (contents : List (List ℕ)) × (bytes : List ℕ) × IsFileIn kept visits contents bytes
     × (wanted ≡ kept.digest) × (found ≡ digest_of bytes) × (found ≢ wanted)
 EndsFetch kept visits (Err fault.NoMemory) w = visits ≡ []
-EndsFetch kept visits (Err e) w = IsStopped kept 0 visits e w
+EndsFetch kept visits (Err e) w = IsFetchStopped kept 0 visits e w
 
 pub record RecordRead (job : ℕ) (kept : Record) (result : Result (Vec ℕ Global) FetchFault)
     (v w : GroupPasses) : Type 0 where

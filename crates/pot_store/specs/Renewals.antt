@@ -22,7 +22,7 @@ use Rattle.pot_replies.specs.Settings.{Setting}
 use Rattle.pot_replies.specs.Sections.{Section, mine}
 use Rattle.pot_replies.specs.Listings.{IsIndexFull}
 use Rattle.pot_replies.specs.Stores.{Placed}
-use Rattle.pot_replies.specs.Fetches.{IsAbsent, IsOdd, IsLost, IsFetchFault, IsFetchLogFull}
+use Rattle.pot_replies.specs.Fetches.{IsFetchAbsent, IsOdd, IsLost, IsFetchFault, IsFetchLogFull}
 use Rattle.pot_replies.specs.Renewals.{renewing, AllPut, IsRenewed, IsOften, IsOftenLate}
 use Rattle.pot_replies.specs.Renewals.{IsRenewIndexFull, IsRenewFault, IsRenewFull, IsRenewLogFull}
 use Rattle.pot_store.specs.Drawing.{blocks_from}
@@ -64,7 +64,7 @@ of_renew renew_fault.NoMemory = fault.NoMemory
 -- THE PUTS OF THE NEW SPLIT
 
 -- the puts ended at this one
-pub record StopsAt (rack : Rack) (geometry : Geometry) (job : ℕ) (file : List ℕ) (pads : Pads)
+pub record StopsAtPut (rack : Rack) (geometry : Geometry) (job : ℕ) (file : List ℕ) (pads : Pads)
     (e : RenewFileFault) (old new : GroupPasses) : Type 0 where
   pub group : ℕ
   pub cause : PutFault
@@ -74,7 +74,7 @@ pub record StopsAt (rack : Rack) (geometry : Geometry) (job : ℕ) (file : List 
 
 -- The blocks of a file, by the next bytes of a stream, were put as a split of this geometry, which
 -- each record of that file may get.
-pub record IsSplit (rack : Rack) (geometry : Geometry) (job : ℕ) (file : List ℕ) (pads : Pads)
+pub record IsFileSplit (rack : Rack) (geometry : Geometry) (job : ℕ) (file : List ℕ) (pads : Pads)
     (x : Stored) (split : Split) (old new : GroupPasses) : Type 0 where
   pub pieces_is : x.pieces ≡ pieces_of (length file)
   pub shards_is : x.shards ≡ length split.places
@@ -88,10 +88,10 @@ pub record IsSplit (rack : Rack) (geometry : Geometry) (job : ℕ) (file : List 
 abbrev pub PutsSplit : Rack → Geometry → ℕ → List ℕ → Pads → Result (Stored × Split) RenewFileFault
     → GroupPasses → GroupPasses → Type 0
 PutsSplit rack geometry job file pads (Ok (x, split)) old new =
-    IsSplit rack geometry job file pads x split old new
+    IsFileSplit rack geometry job file pads x split old new
 PutsSplit rack geometry job file pads (Err fault.NoMemory) old new = new ≡ old
 PutsSplit rack geometry job file pads (Err e) old new =
-    StopsAt rack geometry job file pads e old new
+    StopsAtPut rack geometry job file pads e old new
 
 -- THE ANSWERS
 
@@ -109,7 +109,7 @@ abbrev pub RenewRow : Setting → ℕ → List ℕ → Geometry → Result Store
 RenewRow s job name geometry (Ok x) w = IsRenewed s job name geometry x.pieces x.shards w
 RenewRow s job name geometry (Err fault.IndexLogFull) w =
     IsIndexFull s 1 job w ⊎ IsRenewIndexFull s job name geometry w
-RenewRow s job name geometry (Err fault.Absent) w = IsAbsent job name (mine job w)
+RenewRow s job name geometry (Err fault.Absent) w = IsFetchAbsent job name (mine job w)
 RenewRow s job name geometry (Err fault.TooOften) w =
     IsOften s job name w ⊎ IsOftenLate s job name geometry w
 RenewRow s job name geometry (Err (fault.Faulted group column)) w =

@@ -11,7 +11,7 @@ use Rattle.pot_pads.specs.Pads.{Pads}
 use Rattle.pot_replies.specs.Settings.{Setting}
 use Rattle.pot_replies.specs.Sections.{Section, mine, IsSilent}
 use Rattle.pot_replies.specs.Listings.{IsStoreIndexFull}
-use Rattle.pot_replies.specs.Stores.{IsLong, IsTaken, IsStored, IsStoreFault, IsFull}
+use Rattle.pot_replies.specs.Stores.{IsLong, IsStoreRefused, IsStored, IsStoreFault, IsStoreFull}
 use Rattle.pot_replies.specs.Stores.{IsStoreLogFull}
 use Rattle.pot_store.specs.Drawing.{Drawn, blocks_from, count_of}
 use Rattle.pot_store.specs.declared.storing.Stored.{Stored}
@@ -70,8 +70,8 @@ StoreRow s job name file (Ok x) w = IsStored s job name file x.pieces x.shards (
 StoreRow s job name file (Err (fault.TooLong long)) w =
     (long ≡ length file) × IsLong (length file) (mine job w)
 StoreRow s job name file (Err fault.IndexLogFull) w = IsStoreIndexFull s (length file) job w
-StoreRow s job name file (Err fault.Exists) w = IsTaken job name (length file) (mine job w)
-StoreRow s job name file (Err (fault.Full group)) w = IsFull s job name file group w
+StoreRow s job name file (Err fault.Exists) w = IsStoreRefused job name (length file) (mine job w)
+StoreRow s job name file (Err (fault.Full group)) w = IsStoreFull s job name file group w
 StoreRow s job name file (Err (fault.Faulted group column)) w =
     IsStoreFault s job name file group column (mine job w)
 StoreRow s job name file (Err (fault.LogFull group)) w = IsStoreLogFull s job name file group w

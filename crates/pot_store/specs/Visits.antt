@@ -21,7 +21,7 @@ use Rattle.pot_replies.specs.Joined.{Read}
 use Rattle.pot_replies.specs.Jobs.{is_look_at, is_seen_at, is_stuck_at}
 use Rattle.pot_store.specs.declared.visiting.Point.{Point}
 use Rattle.pot_store.specs.declared.visiting.Point.TheVariants as point
-use Rattle.pot_shared.specs.Adds.{Adds, IsFirst}
+use Rattle.pot_shared.specs.Adds.{Adds, IsFirstTableSeen}
 use Rattle.pot_shared.specs.Works.{gained}
 
 -- WHAT COMES OF A PLACE
@@ -182,7 +182,7 @@ IsWhyBarred g came new = came ≡ Barred → IsFullLog g new
 -- Behind these entries the slot was neither Lost nor Broken, and later the job logged a Gone of it.
 abbrev pub SoundThenGone : ℕ → Place → (List Entry → Type 0) → GroupPasses → GroupPasses → Type 0
 SoundThenGone job p Behind old new =
-    (first : Table) → IsFirst p.group old first
+    (first : Table) → IsFirstTableSeen p.group old first
     → IsTable first × ((x : List Entry) × (behind : List Entry) × (z : List Entry) × Behind x
     × (gained old new p.group ≡ (x ++ behind) ++ entry.Gone job p.stripe p.column ∷ z)
     × ((t : Table) × Replays first (entries_of (view_at old p.group).seen ++ x) t

@@ -9,7 +9,7 @@ ghost use Rattle.pot_shared.specs.Callers.{AreReadyFor, HasAllGroups, HasSlotFor
 ghost use Rattle.pot_store.specs.Visits.{LooksOnce, MendsOn};
 ghost use Rattle.pot_store.specs.Points.{came_in};
 ghost use Rattle.pot_store.specs.Reads.{IsFragmentFrom, PointRead, PointsTried, PointsRead};
-ghost use Rattle.pot_store.specs.Reads.{IsMissing, FragmentRead, PieceRead};
+ghost use Rattle.pot_store.specs.Reads.{IsFileMissing, FragmentRead, PieceRead};
 ghost use Rattle.pot_shared.specs.Blinds.{BeganNone, Blinds};
 
 use crate::fetching::FetchFault;
@@ -207,7 +207,7 @@ fn missing(kept: &Record, at: FragmentAt, from: usize, points: &Points) -> Fetch
     requires geometry { IsGeometry kept.now.geometry }
     requires within { from + kept.now.geometry.shards ≤ length kept.now.places }
     requires few { at.fragment < 8 }
-    ensures { IsMissing kept.now from at.piece at.fragment (came_in points.now) result }
+    ensures { IsFileMissing kept.now from at.piece at.fragment (came_in points.now) result }
 {
     let places = kept.places.as_slice();
     for x in 0..kept.geometry.shards {

@@ -19,7 +19,7 @@ impl Points {
     ghost use Rattle.pot_machine.specs.Table.{count};
     ghost use Rattle.pot_store.specs.declared.visiting.Point.TheVariants as point;
     ghost use Rattle.pot_store.specs.Visits.{came_of, was_seen};
-    ghost use Rattle.pot_store.specs.Points.{came_in, AreUnknown, AreGathered, IsSet};
+    ghost use Rattle.pot_store.specs.Points.{came_in, AreUnknown, AreGathered, IsPointSet};
 
     /// Room for 16 points, of which nothing is known.
     pub fn start(alloc: Global) -> Result<Points, NoMemory>
@@ -64,7 +64,7 @@ impl Points {
     /// Notes what came of a point, from 0, and the block that was read of it.
     pub fn note(&mut self, x: u8, point: Point, block: &Block)
         requires { x < 16 }
-        ensures { IsSet x (came_of point block.now) self.old self.new }
+        ensures { IsPointSet x (came_of point block.now) self.old self.new }
     {
         let at = usize::from(x);
         self.known[at] = point;

@@ -1,6 +1,6 @@
 -- The bytes of another file fit where a coalition sees, and its blocks stand at the places of the
 -- record.
-use Rattle.std.proofs.Common.{◌≡◌, ◌⊎◌, inl, inr, ℕ, zero, suc, List, [], ◌∷◌, Option, Some, None, Bool, refl, sym, ap, ◌∙◌, subst, arith}
+use Rattle.std.proofs.Common.{◌≡◌, ◌⊎◌, inl, inr, ℕ, zero, suc, List, [], ◌∷◌, Option, Some, None, Bool, refl, sym, ap, ◌∙◌, subst}
 use Rattle.std.specs.Prelude.{slice_get, slice_index_or}
 use Rattle.std.proofs.lemmas.Option.{get_or_from_slice_get}
 use Rattle.pot_bytes.specs.declared.rack.Place.{Place}
@@ -11,9 +11,9 @@ use Rattle.pot_world.specs.Acts.{Lose, Look, Mend, MoveBegin, MoveOne, PutNext, 
 use Rattle.pot_world.specs.Audit.{AllFits, Blind, FitsMove, FitsSight, One, Sight, Whole, group_in, other_move, other_moves}
 use Rattle.pot_world.specs.Explains.{Sees}
 use Rattle.pot_world.specs.Group.{WorldGroup, put}
-use Rattle.pot_world.specs.Later.{Both, IsLow, Known, OtherSessions, Sessions, SessionsFit, reopened_site}
+use Rattle.pot_world.specs.Later.{Both, SeesNoParity, KnownOfGroup, OtherSessions, Sessions, SessionsFit, reopened_site}
 use Rattle.pot_world.specs.Reached.{AllGood, EachGroup, IsGood, Loses, Makes, Move, Reaches, Site, may, moved}
-use Rattle.pot_world.specs.Remains.{HasPlacedAt, PutsAt}
+use Rattle.pot_world.specs.Remains.{HasPlacedAt, PutAnswersPlace}
 use Rattle.pot_world.proofs.Auditing.{step_both}
 use Rattle.pot_world.proofs.Later.{reopened_both}
 use Rattle.pot_world.proofs.Reaching.{moves_keep}
@@ -27,13 +27,13 @@ index_beyond [] b d e = refl
 index_beyond (x ∷ xs) zero d e = absurd (cc)
 index_beyond (x ∷ xs) (suc b) d e = index_beyond xs b d e
 
-each_known : (rack : Rack) (used : ℕ → Bool) (gs : List WorldGroup) → EachGroup (Known rack used) gs → EachGroup (IsGood used) gs
+each_known : (rack : Rack) (used : ℕ → Bool) (gs : List WorldGroup) → EachGroup (KnownOfGroup rack used) gs → EachGroup (IsGood used) gs
 unfolding EachGroup
 each_known rack used [] known = tt
 each_known rack used (g ∷ gs) known = (known.0.good, each_known rack used gs known.1)
 
 -- groups of which more is known keep their rules
-all_good : (rack : Rack) (x : Site) → EachGroup (Known rack x.used) x.groups → AllGood x
+all_good : (rack : Rack) (x : Site) → EachGroup (KnownOfGroup rack x.used) x.groups → AllGood x
 all_good rack x known = each_known rack x.used x.groups known
 
 module _ (places : List Place) (blocks : List (List ℕ)) where
@@ -157,9 +157,9 @@ module _ (places : List Place) (blocks : List (List ℕ)) where
     abbrev pub StandsFor : Site → Site → Type 0
     StandsFor x y = (n s c : ℕ) (block : List ℕ) → HasPlacedAt n s c block x.groups → HasPlacedAt n s c (block_or blocks (number_of places n s c) block) y.groups
 
-    module _ (rack : Rack) (exchanges : Bool) (low : IsLow rack sights) where
+    module _ (rack : Rack) (exchanges : Bool) (low : SeesNoParity rack sights) where
       -- a put of the other bytes
-      puts_for : (x y : Site) (n job s c : ℕ) (block : List ℕ) → IsBlock (put_for places blocks n block (put job block (group_in x n)).place) → Both rack exchanges sights x y → PutsAt n job block s c x.groups
+      puts_for : (x y : Site) (n job s c : ℕ) (block : List ℕ) → IsBlock (put_for places blocks n block (put job block (group_in x n)).place) → Both rack exchanges sights x y → PutAnswersPlace n job block s c x.groups
           → HasPlacedAt n s c (block_or blocks (number_of places n s c) block) (moved (Makes n (PutNext job (put_for places blocks n block (put job block (group_in x n)).place))) y).groups
       puts_for x y n job s c block is b here =
           let at = put_of n job block s c x.groups here in
@@ -178,12 +178,12 @@ module _ (places : List Place) (blocks : List (List ℕ)) where
           other : Move
           other = other_move exchanges sights (other_put places blocks m x) m x y
 
-          now : (job : ℕ) → m ≡ Makes n (PutNext job block) → PutsAt n job block s c x.groups → HasPlacedAt n s c (block_or blocks (number_of places n s c) block) (moved (other_move exchanges sights (other_put places blocks m x) m x y) y).groups
+          now : (job : ℕ) → m ≡ Makes n (PutNext job block) → PutAnswersPlace n job block s c x.groups → HasPlacedAt n s c (block_or blocks (number_of places n s c) block) (moved (other_move exchanges sights (other_put places blocks m x) m x y) y).groups
           now job e here =
               subst (λ q. HasPlacedAt n s c (block_or blocks (number_of places n s c) block) (moved (other_move exchanges sights (other_put places blocks q x) q x y) y).groups) (sym e)
               (puts_for x y n job s c block (subst (λ q. IsBlock (other_put places blocks q x)) e is) b here)
 
-          by : HasPlacedAt n s c block x.groups ⊎ ((job : ℕ) × (m ≡ Makes n (PutNext job block)) × PutsAt n job block s c x.groups)
+          by : HasPlacedAt n s c block x.groups ⊎ ((job : ℕ) × (m ≡ Makes n (PutNext job block)) × PutAnswersPlace n job block s c x.groups)
               → HasPlacedAt n s c (block_or blocks (number_of places n s c) block) (moved (other_move exchanges sights (other_put places blocks m x) m x y) y).groups
           by (inl before) = move_still s c (block_or blocks (number_of places n s c) block) n other y b.good ok' (stands n s c block before)
           by (inr x) = now x.0 x.1 x.2

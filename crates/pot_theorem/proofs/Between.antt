@@ -1,5 +1,5 @@
--- From the groups that a session left, over archives that have only lost blocks since, to those that
--- the next one leaves.
+-- From the groups that a session left, over archives that have only lost blocks since, to those
+-- that the next one leaves.
 use Rattle.std.proofs.Common.{◌≡◌, ℕ, List, [], ◌∷◌, ◌++◌, Option, Some, None, Bool, true, false, refl, ap, ◌∙◌, map, if◌then◌else◌}
 use Rattle.std.specs.Prelude.{◌==◌}
 use Rattle.std.specs.List.{list_any}
@@ -12,7 +12,7 @@ use Rattle.pot_world.specs.Acts.{Act}
 use Rattle.pot_world.specs.Later.{of_table, reopened}
 use Rattle.pot_world.specs.Reached.{Reaches}
 use Rattle.pot_world.proofs.Later.{good_anew}
-use Rattle.pot_refinement.specs.Refinement.{ActsTo, EachRan, Past, Ran, SimulateNew, Simulates, all_ran, ran_of, used_by_all, used_by_each}
+use Rattle.pot_refinement.specs.Refinement.{ActsTo, EachRan, PastGroup, Ran, SimulateNew, Simulates, all_ran, ran_of, used_by_all, used_by_each}
 use Rattle.pot_refinement.proofs.Acting.{acts_join, by_losses}
 use Rattle.pot_refinement.proofs.Executions.{first, follows_calls, follows_each, makes, next, reach_first, reach_join, reach_next, site}
 use Rattle.pot_refinement.proofs.Simulating.{follows_all}
@@ -64,7 +64,7 @@ begins_again used g end start f b = by_losses used (reopened g) (kept_state end)
 
 -- ALL GROUPS
 
-abbrev pub AllBegun : List Past → List Past → Type 0
+abbrev pub AllBegun : List PastGroup → List PastGroup → Type 0
 AllBegun [] [] = Unit {0}
 AllBegun [] (q ∷ qs) = ⊥
 AllBegun (p ∷ ps) [] = ⊥
@@ -77,7 +77,7 @@ new_calls calls used (g ∷ gs) [] f = f
 new_calls calls used (g ∷ gs) (r ∷ rs) f = (follows_calls calls used g r.new f.0, new_calls calls used gs rs f.1)
 
 -- group after group
-pub go_all : (used : ℕ → Bool) (gs : List WorldGroup) (ps qs : List Past) → SimulateNew used gs (all_ran ps) → AllBegun ps qs → EachRan used (all_ran qs)
+pub go_all : (used : ℕ → Bool) (gs : List WorldGroup) (ps qs : List PastGroup) → SimulateNew used gs (all_ran ps) → AllBegun ps qs → EachRan used (all_ran qs)
     → (ms : List (ℕ × Act)) × (hs : List WorldGroup) × Reaches (site used (map reopened gs)) (makes ms) (site (used_by_each (all_ran qs) used) hs) × SimulateNew (used_by_each (all_ran qs) used) hs (all_ran qs)
 unfolding Reaches makes
 go_all used [] [] [] f begun each = ([], [], refl, tt)

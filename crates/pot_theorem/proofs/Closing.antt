@@ -1,6 +1,6 @@
 -- A run has one session that closed, or none; and one that closed has replies.
 use Rattle.std.proofs.Common.{◌≡◌, ◌⊎◌, inl, inr, ℕ, Bool, List, [], ◌∷◌, ◌++◌, sym, ◌∙◌, append-nil, append_assoc}
-use Rattle.pot_outside.specs.Accounts.{held_in}
+use Rattle.pot_outside.specs.Desks.{image_met}
 use Rattle.pot_script.specs.declared.grouping.Step.{Step}
 use Rattle.pot_image.specs.declared.image.Image.{Image}
 use Rattle.pot_image.specs.Images.{contents}
@@ -16,13 +16,13 @@ use Rattle.pot_commands.specs.Ends.{EndsOver, EndsShort, StopsAt}
 use Rattle.pot_commands.specs.Steps.{IsStepHalted, IsStepLeft}
 use Rattle.pot_session.specs.declared.ending.status.Status.{Status}
 use Rattle.pot_session.specs.Desks.{begun}
-use Rattle.pot_session.specs.Runs.{IsOf, Seen, Served, Stopped}
+use Rattle.pot_session.specs.Runs.{IsSessionOf, Seen, Served, Stopped}
 use Rattle.pot_session.specs.Serving.{Serves, Closed, Unlent, Unopened, setting_of}
 use Rattle.pot_promises.proofs.Running.{WroteFirst, all_written, cut_written, none_behind, whole_follows}
-use Rattle.pot_theorem.specs.Sessions.{HasAnswered, HasReplies, NoneClosed, RanToClose, RunsClose, RunsReply}
+use Rattle.pot_theorem.specs.Sessions.{HasAnswered, HasReplies, NoneClosedInRoom, RanToClose, RunsClose, RunsReply}
 
-served : (seed : List ℕ) (careful : Bool) (seen : Seen) (answer : Status) (i : Image) (steps : List Step) → IsOf seen.source (held_in seen.desk) i steps → FitsTogether (begun (contents i))
-    → Serves seed careful (begun (contents i)) steps seen.room seen.sink seen.desk answer → RanToClose seed careful seen answer ⊎ NoneClosed seen.room
+served : (seed : List ℕ) (careful : Bool) (seen : Seen) (answer : Status) (i : Image) (steps : List Step) → IsSessionOf seen.source (image_met seen.desk) i steps → FitsTogether (begun (contents i))
+    → Serves seed careful (begun (contents i)) steps seen.room seen.sink seen.desk answer → RanToClose seed careful seen answer ⊎ NoneClosedInRoom seen.room
 served seed careful seen answer i steps of fits (Unlent is stays kept unlent others) = inr (inr (inl unlent))
 served seed careful seen answer i steps of fits (Unopened is stays kept unopened) = inr (inr (inr unopened.0))
 served seed careful seen answer i steps of fits (Closed closed) = inl (record { read = i; steps = steps; of = of; fits = fits; closed = closed })

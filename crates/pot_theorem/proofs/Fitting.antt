@@ -1,5 +1,5 @@
 -- Another file fits what a coalition sees of one that a session of a chain stored.
-use Rattle.std.proofs.Common.{◌≡◌, ℕ, zero, suc, ◌+◌, ◌*◌, ◌<◌, List, [], ◌∷◌, ◌++◌, Option, Some, None, Bool, true, false, refl, sym, ap, ap₂, ◌∙◌, subst, arith, map, length}
+use Rattle.std.proofs.Common.{◌≡◌, ℕ, zero, suc, ◌*◌, ◌<◌, List, [], ◌∷◌, ◌++◌, Option, Some, None, Bool, true, false, refl, sym, ap, ap₂, ◌∙◌, subst, arith, map, length}
 use Rattle.std.specs.Prelude.{◌==◌, ◌&&◌, Contains, slice_get, slice_index_or}
 use Rattle.std.proofs.lemmas.Bool.{and_from, and_parts, eq-eqb, eqb-true}
 use Rattle.std.proofs.lemmas.List.{length-map}
@@ -33,7 +33,7 @@ use Rattle.pot_index.specs.Records.{current_of, splits_of}
 use Rattle.pot_world.specs.Audit.{Sight, group_in, sight_of}
 use Rattle.pot_world.specs.Explains.{Sees}
 use Rattle.pot_world.specs.Group.{WorldGroup}
-use Rattle.pot_world.specs.Later.{IsLow}
+use Rattle.pot_world.specs.Later.{SeesNoParity}
 use Rattle.pot_world.specs.Places.{HasPlaced}
 use Rattle.pot_world.specs.Reached.{AllGood, Reaches, Site, first_groups, first_site}
 use Rattle.pot_world.specs.Remains.{HasPlacedAt}
@@ -57,7 +57,7 @@ use Rattle.pot_replies.specs.Stores.{Placed, in_group, place_of}
 use Rattle.pot_shared.specs.Leaving.{still}
 use Rattle.pot_promises.specs.Answers.{IsAnswered, job_at}
 use Rattle.pot_promises.specs.Chains.{IsSession}
-use Rattle.pot_promises.specs.Veils.{AllFit, FitsToo, HasStored, IsSameBlock, random_of, stream_blocks}
+use Rattle.pot_promises.specs.Veils.{EachOtherFits, FitsToo, HasStored, IsSameBlock, random_of, stream_blocks}
 use Rattle.pot_promises.proofs.Odds.{kept_fills, puts_has}
 use Rattle.pot_promises.proofs.Running.{all_lead}
 use Rattle.pot_promises.proofs.Veils as promised
@@ -184,7 +184,7 @@ module _ (c : ClosedSession) (more : List ClosedSession) (chain : AreInARow c mo
   }
 
   -- what its job stored
-  pub stored : (its : HasStored seed d.first job name file pieces shards replied.done) × FitsRack d.first.rack its.kept × AllFit (places_of (current_of its.kept)) its.placed file random
+  pub stored : (its : HasStored seed d.first job name file pieces shards replied.done) × FitsRack d.first.rack its.kept × EachOtherFits (places_of (current_of its.kept)) its.placed file random
   stored =
       let s = promised.stays_veiled seed d.first d.last ss rs session p i name file of pieces shards answered in
       (s.0, kept_fits seed d.first d.last ss rs session p i name file of pieces shards answered, s.1)
@@ -282,7 +282,7 @@ module _ (c : ClosedSession) (more : List ClosedSession) (chain : AreInARow c mo
     -- THE OTHER FILE
 
     module _ (exchanges : Bool) (spots : List Spot) (veils : List Veil) (other : List ℕ) (are : AreVeils rack spots kept veils) (hidden : AreHidden veils) (bytes : AreBytes other) (same : length other ≡ length file)
-        (all_fit : AllFit (places_of split) its.placed file random) (alike : NoTwoAlike (stream_blocks seed d.first job file ++ blocks_at kept.places z)) where
+        (all_fit : EachOtherFits (places_of split) its.placed file random) (alike : NoTwoAlike (stream_blocks seed d.first job file ++ blocks_at kept.places z)) where
       abbrev sights : ℕ → Sight
       sights = sight_of rack (has_column spots)
 
@@ -357,7 +357,7 @@ module _ (c : ClosedSession) (more : List ClosedSession) (chain : AreInARow c mo
       abbrev put_bytes : ℕ → ℕ → List ℕ
       put_bytes = bytes_of kept.places blocks (first_site rack) r.world.sessions z r.world.run
 
-      low : IsLow rack sights
+      low : SeesNoParity rack sights
       low = sights_fit rack (has_column spots)
 
       stands_nowhere : StandsFor kept.places blocks sights (first_site rack) (first_site rack)

@@ -1,4 +1,5 @@
--- The groups that a session left, one after another, with what the contract of the run says of each.
+-- The groups that a session left, one after another, with what the contract of the run says of
+-- each.
 use Rattle.std.proofs.Common.{◌≡◌, inl, inr, ℕ, suc, ◌<◌, List, [], ◌∷◌, ◌++◌, Some, Bool, true, false, ◌||◌, IsTrue, refl, sym, ap, ◌∙◌, subst, arith, length, map}
 use Rattle.std.specs.Prelude.{◌==◌, ◌^◌, All, Contains, flat_map, slice_get}
 use Rattle.std.proofs.lemmas.Bool.{eqb-true}
@@ -19,7 +20,7 @@ use Rattle.pot_shared.proofs.Takings.{blocks_same}
 use Rattle.pot_shared.proofs.Times.{contains_times, times-append}
 use Rattle.pot_execution.specs.Execution.{FailedInOpening}
 use Rattle.pot_world.specs.Acts.{with_use}
-use Rattle.pot_refinement.specs.Refinement.{AllWentWell, ComeEmpty, IsEmpty, Past, WentWell, is_clean, used_since, with_uses}
+use Rattle.pot_refinement.specs.Refinement.{AllWentWell, ComeEmpty, IsArchiveEmpty, PastGroup, WentWell, is_clean, used_since, with_uses}
 use Rattle.pot_session.specs.Serving.{IsInRoom, came_by}
 use Rattle.pot_theorem.specs.Sessions.{ClosedSession}
 
@@ -32,10 +33,10 @@ pub record One (c : ClosedSession) : Type 0 where
   pub written : Table
   pub left : LeavesGroup (IsTrue c.room.tells) c.room.before.means (IsInRoom (IsTrue c.room.tells) c.room.after.means c.missing) read log written
 
-abbrev pub past_of : (c : ClosedSession) → One c → Past
+abbrev pub past_of : (c : ClosedSession) → One c → PastGroup
 past_of c o = record { view = o.left.view; execution = o.left.execution c.told }
 
-abbrev pub pasts_of : (c : ClosedSession) → List (One c) → List Past
+abbrev pub pasts_of : (c : ClosedSession) → List (One c) → List PastGroup
 pasts_of c os = map (past_of c) os
 
 abbrev pub reads : (c : ClosedSession) → List (One c) → List Table
@@ -92,7 +93,7 @@ module _ (c : ClosedSession) (o : One c) where
   pub heard_then : (n : ℕ) → Contains (had_by o.left.view) n → (o.left.view.shelves.taken n).heard ≡ (c.room.before.means n).heard
   heard_then n h = ap (λ (t : Taking). t.heard) (o.left.taken c.told n h)
 
-  pub empty_then : (n : ℕ) → Contains (had_by o.left.view) n → IsEmpty (c.room.before.means n) → IsEmpty (o.left.view.shelves.taken n)
+  pub empty_then : (n : ℕ) → Contains (had_by o.left.view) n → IsArchiveEmpty (c.room.before.means n) → IsArchiveEmpty (o.left.view.shelves.taken n)
   empty_then n h e = record { held = λ slot lt. took n slot h lt ∙ e.held slot lt; heard = heard_then n h ∙ e.heard }
 
   -- and what is seen of it is what its number means, where the room took it back
@@ -137,7 +138,7 @@ uses_more [] used m none absent = none
 uses_more (n ∷ ns) used m none absent =
     uses_more ns (with_use used n) m (one_more used n m none (λ e. absent (subst (λ k. Contains (n ∷ ns) k) e (here n ns)))) (λ h. absent (Contains-append_right (n ∷ []) ns m h))
 
-come_empty : (ns : List ℕ) (used : ℕ → Bool) (taken : ℕ → Meaning) → ((n : ℕ) → Contains ns n → used n ≡ false) → ((n : ℕ) → Contains ns n → IsEmpty (taken n)) → AreApart ns → ComeEmpty used taken ns
+come_empty : (ns : List ℕ) (used : ℕ → Bool) (taken : ℕ → Meaning) → ((n : ℕ) → Contains ns n → used n ≡ false) → ((n : ℕ) → Contains ns n → IsArchiveEmpty (taken n)) → AreApart ns → ComeEmpty used taken ns
 come_empty [] used taken unused empty apart = tt
 come_empty (n ∷ ns) used taken unused empty apart = (
   unused n (here n ns),
@@ -166,7 +167,7 @@ named_of c os = flat_map archives_in (reads c os)
 pub record Asks (c : ClosedSession) (used : ℕ → Bool) (named came : List ℕ) : Type 0 where
   pub back_named : (n : ℕ) → Contains named n → times n c.missing ≡ 0
   pub steady : (n : ℕ) → Contains named n → Rose (c.room.before.means n).faults (c.room.after.means n).faults → ⊥
-  pub empty : (n : ℕ) → Contains came n → IsEmpty (c.room.before.means n)
+  pub empty : (n : ℕ) → Contains came n → IsArchiveEmpty (c.room.before.means n)
   pub unused : (n : ℕ) → Contains came n → used n ≡ false
   pub apart : AreApart came
 

@@ -31,7 +31,7 @@ use Rattle.pot_world.specs.Later.{Sessions, reopened, reopened_site}
 use Rattle.pot_world.specs.Moves.{copy_by, move_by, move_one, swap}
 use Rattle.pot_world.specs.Places.{HasPlaced}
 use Rattle.pot_world.specs.Reached.{AllGood, EachGroup, IsAllowedAt, IsGood, Loses, Makes, Move, Reaches, Site, at_group, may, moved}
-use Rattle.pot_world.specs.Remains.{HasPlacedAt, PutsAt}
+use Rattle.pot_world.specs.Remains.{HasPlacedAt, PutAnswersPlace}
 use Rattle.pot_world.specs.World.{no_group}
 use Rattle.pot_world.proofs.Alikeness.{keeps_alike}
 use Rattle.pot_world.proofs.Later.{good_anew}
@@ -251,7 +251,7 @@ act_or (Swap job k to) g s c b kept x = inl (was_there g (act (Swap job k to) g)
 
 -- it stood there before the move, or the move put it there
 abbrev pub WasOrMoved : Move → List WorldGroup → ℕ → ℕ → ℕ → List ℕ → Type 0
-WasOrMoved m gs n s c b = HasPlacedAt n s c b gs ⊎ ((job : ℕ) × (m ≡ Makes n (PutNext job b)) × PutsAt n job b s c gs)
+WasOrMoved m gs n s c b = HasPlacedAt n s c b gs ⊎ ((job : ℕ) × (m ≡ Makes n (PutNext job b)) × PutAnswersPlace n job b s c gs)
 
 module _ (s c : ℕ) (b : List ℕ) where
   lost_or : (n number slot : ℕ) (gs : List WorldGroup) → HasPlacedAt n s c b (map (lose number slot) gs) → HasPlacedAt n s c b gs
@@ -261,8 +261,8 @@ module _ (s c : ℕ) (b : List ℕ) where
   lost_or (suc n) number slot (g ∷ gs) h = lost_or n number slot gs h
 
   one_or : (used : ℕ → Bool) (n m : ℕ) (a : Act) (gs : List WorldGroup) → EachGroup (IsGood used) gs → HasPlacedAt n s c b (at_group m (act a) gs)
-      → HasPlacedAt n s c b gs ⊎ ((n ≡ m) × (job : ℕ) × (a ≡ PutNext job b) × PutsAt n job b s c gs)
-  unfolding HasPlacedAt EachGroup at_group PutsAt
+      → HasPlacedAt n s c b gs ⊎ ((n ≡ m) × (job : ℕ) × (a ≡ PutNext job b) × PutAnswersPlace n job b s c gs)
+  unfolding HasPlacedAt EachGroup at_group PutAnswersPlace
   one_or used n m a [] good h = inl h
   one_or used zero zero a (g ∷ gs) good h = elim (act_or a g s c b good.0.0 h) [ inl before ↦ inl before | inr now ↦ inr (refl, now.0, now.1, now.2) ]
   one_or used zero (suc m) a (g ∷ gs) good h = inl h
@@ -284,14 +284,14 @@ allowed_block used n job block [] is = absurd is
 allowed_block used zero job block (g ∷ gs) is = is
 allowed_block used (suc n) job block (g ∷ gs) is = allowed_block used n job block gs is
 
-pub puts_at : (used : ℕ → Bool) (n job : ℕ) (block : List ℕ) (s c : ℕ) (gs : List WorldGroup) → IsAllowedAt used n (PutNext job block) gs → (put job block (slice_index_or gs n no_group)).place ≡ Some (s, c) → PutsAt n job block s c gs
-unfolding IsAllowedAt PutsAt
+pub puts_at : (used : ℕ → Bool) (n job : ℕ) (block : List ℕ) (s c : ℕ) (gs : List WorldGroup) → IsAllowedAt used n (PutNext job block) gs → (put job block (slice_index_or gs n no_group)).place ≡ Some (s, c) → PutAnswersPlace n job block s c gs
+unfolding IsAllowedAt PutAnswersPlace
 puts_at used n job block s c [] is e = absurd is
 puts_at used zero job block s c (g ∷ gs) is e = e
 puts_at used (suc n) job block s c (g ∷ gs) is e = puts_at used n job block s c gs is e
 
-pub put_of : (n job : ℕ) (block : List ℕ) (s c : ℕ) (gs : List WorldGroup) → PutsAt n job block s c gs → (put job block (slice_index_or gs n no_group)).place ≡ Some (s, c)
-unfolding PutsAt
+pub put_of : (n job : ℕ) (block : List ℕ) (s c : ℕ) (gs : List WorldGroup) → PutAnswersPlace n job block s c gs → (put job block (slice_index_or gs n no_group)).place ≡ Some (s, c)
+unfolding PutAnswersPlace
 put_of n job block s c [] p = absurd p
 put_of zero job block s c (g ∷ gs) p = p
 put_of (suc n) job block s c (g ∷ gs) p = put_of n job block s c gs p
@@ -308,8 +308,8 @@ seen_alike exchanges Whole g h e = subst (λ x. Alike g x) (sym e) (record { tab
 seen_alike exchanges (One k) g h x = x.0.alike
 seen_alike exchanges Blind g h x = x
 
-pub puts_alike : (exchanges : Bool) (sights : ℕ → Sight) (n job : ℕ) (block other : List ℕ) (s c : ℕ) (gs hs : List WorldGroup) → AllSame exchanges sights gs hs → PutsAt n job block s c gs → PutsAt n job other s c hs
-unfolding AllSame PutsAt
+pub puts_alike : (exchanges : Bool) (sights : ℕ → Sight) (n job : ℕ) (block other : List ℕ) (s c : ℕ) (gs hs : List WorldGroup) → AllSame exchanges sights gs hs → PutAnswersPlace n job block s c gs → PutAnswersPlace n job other s c hs
+unfolding AllSame PutAnswersPlace
 puts_alike exchanges sights n job block other s c [] hs same p = absurd p
 puts_alike exchanges sights n job block other s c (g ∷ gs) [] same p = absurd same
 puts_alike exchanges sights zero job block other s c (g ∷ gs) (h ∷ hs) same p = sym (keeps_alike.put job block other g h (seen_alike exchanges (sights 0) g h same.0)).1 ∙ p

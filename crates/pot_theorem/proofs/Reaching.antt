@@ -23,11 +23,11 @@ use Rattle.pot_world.specs.Group.{WorldGroup}
 use Rattle.pot_world.specs.Later.{Sessions, reopened_site}
 use Rattle.pot_world.specs.Reached.{EachGroup, IsGood, Move, Reaches, Site, first_site, first_used}
 use Rattle.pot_world.proofs.Later.{first_reopened}
-use Rattle.pot_refinement.specs.Refinement.{AllWentWell, AreNew, IsEmpty, SimulateNew, Simulates, all_ran, is_clean, used_by_each, used_since}
+use Rattle.pot_refinement.specs.Refinement.{AllWentWell, AreNewGroups, IsArchiveEmpty, SimulateNew, Simulates, all_ran, is_clean, used_by_each, used_since}
 use Rattle.pot_refinement.proofs.Ended.{all_used, all_well, first_session}
 use Rattle.pot_refinement.proofs.Executions.{makes, site}
 use Rattle.pot_theorem.specs.Worlds.{AllAsLeft, AreAsLeft, IsGroupOf, IsInWorld, RunsReach, IsAsLeft, had_with}
-use Rattle.pot_theorem.specs.Sessions.{ClosedSession, AllSucceed, Succeeds, AreInARow, IsFirst, IsUndisturbed, new_archives, last_session, many_archives, first_archives}
+use Rattle.pot_theorem.specs.Sessions.{ClosedSession, AllSucceed, Succeeds, AreInARow, IsFirstSession, IsUndisturbed, new_archives, last_session, many_archives, first_archives}
 use Rattle.pot_theorem.proofs.Between.{go_all}
 use Rattle.pot_theorem.proofs.Chaining.{HasColumns, all_begun, all_of}
 use Rattle.pot_theorem.proofs.Groups.{Asks, One, all_went, back_apart, came_of, empty_then, had_here, logs, named_of, ones_of, pasts_of, reads, shown, since, writtens}
@@ -89,8 +89,8 @@ columns_of c g t e =
 
 -- THE FIRST SESSION
 
-all_new : (c : ClosedSession) (rack : Rack) (n more : ℕ) (os : List (One c)) → reads c os ≡ map (empty_table rack) (range_with_len n more) → ((m : ℕ) → Contains (named_of c os) m → IsEmpty (c.room.before.means m))
-    → AreNew rack n more (pasts_of c os)
+all_new : (c : ClosedSession) (rack : Rack) (n more : ℕ) (os : List (One c)) → reads c os ≡ map (empty_table rack) (range_with_len n more) → ((m : ℕ) → Contains (named_of c os) m → IsArchiveEmpty (c.room.before.means m))
+    → AreNewGroups rack n more (pasts_of c os)
 all_new c rack n zero [] are empty = tt
 all_new c rack n zero (o ∷ os) are empty = absurd (cc are)
 all_new c rack n (suc more) [] are empty = absurd (cc are)
@@ -108,7 +108,7 @@ all_new c rack n (suc more) (o ∷ os) are empty = (
       (λ m h. empty m (Contains-append_right (archives_in o.read) (named_of c os) m h)),
 )
 
-new_first : (c : ClosedSession) → IsFirst c → AreNew c.first.rack 0 c.first.rack.groups (pasts_of c (all_of c))
+new_first : (c : ClosedSession) → IsFirstSession c → AreNewGroups c.first.rack 0 c.first.rack.groups (pasts_of c (all_of c))
 new_first c first =
     all_new c c.first.rack 0 c.first.rack.groups (all_of c) ((ones_of c).are_read ∙ first.tables)
     (λ m h. first.empty m (subst (λ ts. Contains (flat_map archives_in ts) m) (ones_of c).are_read h))
@@ -129,7 +129,7 @@ pub record GoesTo (rack : Rack) (earlier : List ℕ) (c : ClosedSession) (from :
   pub go : Reaches from moves to
   pub reached : IsReached rack earlier c to
 
-pub first_reach : (c : ClosedSession) → IsFirst c → IsUndisturbed [] c → GoesTo c.first.rack (new_archives c) c (first_site c.first.rack)
+pub first_reach : (c : ClosedSession) → IsFirstSession c → IsUndisturbed [] c → GoesTo c.first.rack (new_archives c) c (first_site c.first.rack)
 first_reach c first u =
     let rack = c.first.rack in
     let r = first_session rack (pasts_of c (all_of c)) c.fits.rack (new_first c first) (went [] c u (first_used rack) (first_unused rack)) in

@@ -11,13 +11,13 @@ use Rattle.pot_machine.specs.Column.{names}
 use Rattle.pot_machine.specs.Table.{Table, column_at, width}
 use Rattle.pot_world.specs.Audit.{AllFits, AllSame, Blind, One, SeesSame, Sight, Whole, sight_of}
 use Rattle.pot_world.specs.Group.{WorldGroup}
-use Rattle.pot_world.specs.Later.{Both, IsLow, Known, OtherSessions, Sessions, SessionsFit, reopened_site}
+use Rattle.pot_world.specs.Later.{Both, SeesNoParity, KnownOfGroup, OtherSessions, Sessions, SessionsFit, reopened_site}
 use Rattle.pot_world.specs.Reached.{EachGroup, Loses, Makes, Move, Site, first_site, moved}
 use Rattle.pot_steps.proofs.BlockLemmas.{IsBlock-zero_block}
 use Rattle.pot_world.proofs.Auditing.{first_both, sights_fit}
 use Rattle.pot_world.proofs.Later.{reopened_both, runs_seen_on}
 use Rattle.pot_theorem.specs.Hard.{HomesServe}
-use Rattle.pot_theorem.specs.Veil.{IsVeiled, SeesAfterEach, SeesInRoom}
+use Rattle.pot_theorem.specs.Veil.{IsCoalitionVeiled, SeesAfterEach, SeesInRoom}
 use Rattle.pot_theorem.specs.Sessions.{ClosedSession, last_session}
 use Rattle.pot_theorem.specs.Worlds.{AllAsLeft, IsInWorld, IsAsLeft}
 use Rattle.pot_theorem.proofs.Reaching.{IsReached, as_left}
@@ -25,7 +25,7 @@ use Rattle.pot_theorem.proofs.Standing.{of_named}
 
 -- SESSIONS WITH OTHER BYTES
 
-pub both_on : (rack : Rack) (exchanges : Bool) (sights : ℕ → Sight) (sessions : List (List Move)) (bytes : ℕ → ℕ → List ℕ) (x y z : Site) → IsLow rack sights → ((n m : ℕ) → IsBlock (bytes n m))
+pub both_on : (rack : Rack) (exchanges : Bool) (sights : ℕ → Sight) (sessions : List (List Move)) (bytes : ℕ → ℕ → List ℕ) (x y z : Site) → SeesNoParity rack sights → ((n m : ℕ) → IsBlock (bytes n m))
     → Both rack exchanges sights x y → (run : Sessions x sessions z) → SessionsFit sights bytes x sessions z run
     → (w : Site) × OtherSessions exchanges sights bytes x y sessions z run w × Both rack exchanges sights z w
 both_on rack exchanges sights [] bytes x y z low blocks b run fits = (y, refl, subst (λ (s : Site). Both rack exchanges sights s y) (sym run) b)
@@ -57,7 +57,7 @@ in_room exchanges (One k) c read written log a b s same = λ n has served. (
 in_room exchanges Blind c read written log a b s same = tt
 
 -- session by session, while the groups are what the sessions left
-veiled_on : (rack : Rack) (exchanges : Bool) (sights : ℕ → Sight) (cs : List ClosedSession) (sessions : List (List Move)) (bytes : ℕ → ℕ → List ℕ) (x y z : Site) → IsLow rack sights
+veiled_on : (rack : Rack) (exchanges : Bool) (sights : ℕ → Sight) (cs : List ClosedSession) (sessions : List (List Move)) (bytes : ℕ → ℕ → List ℕ) (x y z : Site) → SeesNoParity rack sights
     → ((n m : ℕ) → IsBlock (bytes n m)) → Both rack exchanges sights x y → (run : Sessions x sessions z) → SessionsFit sights bytes x sessions z run → AllAsLeft cs x sessions z run
     → (w : Site) × (other : OtherSessions exchanges sights bytes x y sessions z run w) × SeesAfterEach exchanges sights bytes cs x y sessions z run w other
 veiled_on rack exchanges sights [] sessions bytes x y z low blocks b run fits left =
@@ -75,11 +75,11 @@ veiled_on rack exchanges sights (c ∷ cs) (moves ∷ more) bytes x y z low bloc
       ),
     )
 
-pub stays_veiled : (c : ClosedSession) (more : List ClosedSession) (w : IsInWorld c more) → IsVeiled c more w
+pub stays_veiled : (c : ClosedSession) (more : List ClosedSession) (w : IsInWorld c more) → IsCoalitionVeiled c more w
 stays_veiled c more w exchanges coalition bytes blocks fits =
     let rack = c.first.rack in
     let sights = sight_of rack coalition in
-    let low : IsLow rack sights = sights_fit rack coalition in
+    let low : SeesNoParity rack sights = sights_fit rack coalition in
     veiled_on rack exchanges sights (c ∷ more) w.sessions bytes (first_site rack) (first_site rack) w.site low blocks (first_both rack exchanges sights c.fits.rack) w.run fits w.as_left
 
 -- WHAT SERVES
@@ -104,9 +104,9 @@ known_at P [] g h each e = absurd (cc)
 known_at P (x ∷ gs) zero h each e = subst P (same_Some x h e) each.0
 known_at P (x ∷ gs) (suc g) h each e = known_at P gs g h each.1 e
 
-known : (rack : Rack) (sessions : List (List Move)) (z : Site) → IsRack rack → Sessions (first_site rack) sessions z → EachGroup (Known rack z.used) z.groups
+known : (rack : Rack) (sessions : List (List Move)) (z : Site) → IsRack rack → Sessions (first_site rack) sessions z → EachGroup (KnownOfGroup rack z.used) z.groups
 known rack sessions z fits run =
-    let low : IsLow rack none_seen = λ n k e. absurd (cc e) in
+    let low : SeesNoParity rack none_seen = λ n k e. absurd (cc e) in
     let r = both_on rack false none_seen sessions (λ n m. zero_block) (first_site rack) (first_site rack) z low (λ n m. IsBlock-zero_block) (first_both rack false none_seen fits) run
     (sessions_fit sessions (λ n m. zero_block) (first_site rack) z run) in
     r.2.known
@@ -118,5 +118,5 @@ homes_serve c more w earlier r g read written log h k n of there lt named =
     let is = (as_left rack earlier l w.site r g read written log h of there).is in
     let lt' : k < width h.state.table = subst (λ (t : Table). k < width t) is lt in
     let named' : IsTrue (names (column_at h.state.table k) n) = subst (λ (t : Table). IsTrue (names (column_at t k) n)) is named in
-    let x : Known rack w.site.used h = known_at (Known rack w.site.used) w.site.groups g h (known rack w.sessions w.site c.fits.rack w.run) there in
+    let x : KnownOfGroup rack w.site.used h = known_at (KnownOfGroup rack w.site.used) w.site.groups g h (known rack w.sessions w.site c.fits.rack w.run) there in
     (x.served.names k n lt' named', of_named rack earlier l w.site r g read written log h of there n k lt' named')

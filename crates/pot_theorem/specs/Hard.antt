@@ -20,7 +20,7 @@ use Rattle.pot_world.specs.Group.{WorldGroup}
 use Rattle.pot_world.specs.Reached.{Site}
 use Rattle.pot_theorem.specs.Another.{AnotherFile}
 use Rattle.pot_theorem.specs.Sessions.{ClosedSession, AreInARow, last_session}
-use Rattle.pot_theorem.specs.Veil.{IsVeiled}
+use Rattle.pot_theorem.specs.Veil.{IsCoalitionVeiled}
 use Rattle.pot_theorem.specs.Worlds.{IsGroupOf, IsInWorld, had_with}
 
 -- STRIPES
@@ -75,7 +75,7 @@ pub record HoldsInWorld (c : ClosedSession) (more : List ClosedSession) : Type 0
   pub world : IsInWorld c more
   pub stripes : StripesStand (last_session c more) world.site
   pub places : (d : ClosedSession) → Contains (c ∷ more) d → PlacesStand d world.site
-  pub veil : IsVeiled c more world
+  pub veil : IsCoalitionVeiled c more world
   pub another_file : AnotherFile c more world
   pub serve : HomesServe (last_session c more) world.site
 

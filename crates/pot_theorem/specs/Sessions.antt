@@ -4,7 +4,8 @@ use Rattle.std.specs.Prelude.{Contains, List, [], ◌∷◌, Some, flat_map, len
 use Rattle.std.specs.List.{range_with_len}
 use Rattle.pot_bytes.specs.declared.rack.Rack.{Rack}
 use Rattle.pot_bytes.specs.Rack.{log_bound}
-use Rattle.pot_outside.specs.Accounts.{Transition, held_in}
+use Rattle.pot_outside.specs.Accounts.{Transition}
+use Rattle.pot_outside.specs.Desks.{image_met}
 use Rattle.pot_outside.specs.Archives.{Meaning}
 use Rattle.pot_outside.specs.Counts.{Rose}
 use Rattle.pot_outside.specs.Rooms.{RoomState, MeansStay}
@@ -16,19 +17,19 @@ use Rattle.pot_image.specs.declared.image.Image.{Image}
 use Rattle.pot_image.specs.Images.{Contents, contents}
 use Rattle.pot_image.specs.Rules.{FitsTogether}
 use Rattle.pot_script.specs.declared.reply.Reply.{Reply}
-use Rattle.pot_replies.specs.Sections.{Follows, Section}
+use Rattle.pot_replies.specs.Sections.{FollowsSection, Section}
 use Rattle.pot_replies.specs.Sessions.{Replied}
 use Rattle.pot_commands.specs.Ends.{texts_of}
 use Rattle.pot_commands.specs.Rows.{Row}
 use Rattle.pot_commands.specs.Steps.{steps_of}
-use Rattle.pot_refinement.specs.Refinement.{IsEmpty, is_clean}
+use Rattle.pot_refinement.specs.Refinement.{IsArchiveEmpty, is_clean}
 use Rattle.pot_session.specs.declared.ending.status.Status.{Status}
 use Rattle.pot_session.specs.Desks.{begun}
-use Rattle.pot_session.specs.Giving.{IsUnlent, IsUnopened}
+use Rattle.pot_session.specs.Giving.{IsUnlent, IsRoomUnopened}
 use Rattle.pot_session.specs.Losses.{AreBack}
-use Rattle.pot_session.specs.Runs.{Holds, IsOf, Seen}
+use Rattle.pot_session.specs.Runs.{Holds, IsSessionOf, Seen}
 use Rattle.pot_session.specs.Serving.{IsClosed, Leaves, ShareNone, came_by, setting_of}
-use Rattle.pot_promises.specs.Chains.{Begins}
+use Rattle.pot_promises.specs.Chains.{BeginsFrom}
 
 -- A SESSION THAT CLOSED
 
@@ -52,7 +53,7 @@ pub record RanToClose (seed : List ℕ) (careful : Bool) (seen : Seen)
     (answer : Status) : Type 0 where
   pub read : Image
   pub steps : List Step
-  pub of : IsOf seen.source (held_in seen.desk) read steps
+  pub of : IsSessionOf seen.source (image_met seen.desk) read steps
   pub fits : FitsTogether (begun (contents read))
   pub closed : IsClosed seed careful (begun (contents read)) steps seen.room seen.sink seen.desk
       answer
@@ -75,14 +76,14 @@ session_of {seed} {careful} {seen} {answer} r told =
 
 -- No session closed. Each number means what it meant, or each whose archive came back does, or does
 -- but for losses that its archive counted.
-abbrev pub NoneClosed : Transition RoomState → Type 0
-NoneClosed room = MeansStay room ⊎ (IsUnlent room ⊎ IsUnopened room)
+abbrev pub NoneClosedInRoom : Transition RoomState → Type 0
+NoneClosedInRoom room = MeansStay room ⊎ (IsUnlent room ⊎ IsRoomUnopened room)
 
 -- A run of the program has one session that closed, or none.
 abbrev pub RunsClose : Type 0
 RunsClose =
     (seed : List ℕ) (careful : Bool) (seen : Seen) (answer : Status)
-    → Holds seed careful seen answer → RanToClose seed careful seen answer ⊎ NoneClosed seen.room
+    → Holds seed careful seen answer → RanToClose seed careful seen answer ⊎ NoneClosedInRoom seen.room
 
 -- THE REPLIES OF A SESSION
 
@@ -92,7 +93,7 @@ pub record HasReplies (seed : List ℕ) (first : Contents) (story : Section) (ss
     (rs : List Reply) : Type 0 where
   pub done : Section
   pub later : Section
-  pub follows : Follows done later story
+  pub follows : FollowsSection done later story
   pub replied : Replied (Row (setting_of seed first)) 1 (steps_of ss) rs done
 
 -- The first steps of a run have replies so, and all that the run wrote is of their texts.
@@ -141,7 +142,7 @@ pub record IsUndisturbed (earlier : List ℕ) (c : ClosedSession) : Type 0 where
   -- Each log has room. A full one ends a call between its entries.
   pub has_room : All (λ (log : List Entry). length log < log_bound) c.last.group_logs
   -- Each archive that came was empty. A world begins to use an archive with nothing in it.
-  pub empty : (n : ℕ) → Contains (new_archives c) n → IsEmpty (c.room.before.means n)
+  pub empty : (n : ℕ) → Contains (new_archives c) n → IsArchiveEmpty (c.room.before.means n)
   -- It was none of those that the rack began with, and came in no session before. The program sees
   -- the tables and logs of its own session alone.
   pub unused : (n : ℕ) → Contains (new_archives c) n
@@ -150,10 +151,10 @@ pub record IsUndisturbed (earlier : List ℕ) (c : ClosedSession) : Type 0 where
 -- SESSIONS IN A ROW
 
 -- A first session: it began with the empty tables of its rack, over archives that were empty.
-pub record IsFirst (c : ClosedSession) : Type 0 where
+pub record IsFirstSession (c : ClosedSession) : Type 0 where
   pub tables : c.first.tables
       ≡ map (empty_table c.first.rack) (range_with_len 0 c.first.rack.groups)
-  pub empty : (n : ℕ) → Contains (first_archives c) n → IsEmpty (c.room.before.means n)
+  pub empty : (n : ℕ) → Contains (first_archives c) n → IsArchiveEmpty (c.room.before.means n)
 
 -- an archive that meant this may have lost blocks, and did nothing else
 pub record HasOnlyLost (m n : Meaning) : Type 0 where
@@ -164,7 +165,7 @@ pub record HasOnlyLost (m n : Meaning) : Type 0 where
 -- A next session: it began with what the one before left, over archives that had only lost blocks
 -- since.
 pub record Succeeds (c d : ClosedSession) : Type 0 where
-  pub begins : Begins c.last d.first
+  pub begins : BeginsFrom c.last d.first
   pub kept : (n : ℕ) → Contains (first_archives d) n
       → HasOnlyLost (c.room.after.means n) (d.room.before.means n)
 
@@ -178,7 +179,7 @@ AllSucceed earlier c (d ∷ more) =
 -- All sessions of a rack from the first one on, each over what the one before left, and none of
 -- them disturbed.
 pub record AreInARow (c : ClosedSession) (more : List ClosedSession) : Type 0 where
-  pub is_first : IsFirst c
+  pub is_first : IsFirstSession c
   pub undisturbed : IsUndisturbed [] c
   pub go_on : AllSucceed [] c more
 

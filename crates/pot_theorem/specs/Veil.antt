@@ -70,8 +70,8 @@ SeesThroughout exchanges coalition bytes c more w v other =
 -- where they come to columns that it sees, there are sessions of the same moves with those bytes
 -- that lead, session by session, to groups in which all that the coalition sees is what the room
 -- means.
-abbrev pub IsVeiled : (c : ClosedSession) (more : List ClosedSession) → IsInWorld c more → Type 0
-IsVeiled c more w =
+abbrev pub IsCoalitionVeiled : (c : ClosedSession) (more : List ClosedSession) → IsInWorld c more → Type 0
+IsCoalitionVeiled c more w =
     (exchanges : Bool) (coalition : ℕ → ℕ → Bool) (bytes : ℕ → ℕ → List ℕ)
     → ((n m : ℕ) → IsBlock (bytes n m))
     → SessionsFit (sight_of c.first.rack coalition) bytes (first_site c.first.rack) w.sessions

@@ -77,8 +77,8 @@ pub record IsSafePart (part : List ℕ) : Type 0 where
   pub up : part ≢ codes ".."
   pub each : All (λ b. b ≢ 0) part
 
--- a path that stays in its folder: each part between its slashes (47) is safe, so none is empty, and
--- the path does not begin at the root
+-- a path that stays in its folder: each part between its slashes (47) is safe, so none is empty,
+-- and the path does not begin at the root
 abbrev pub IsSafe : List ℕ → Type 0
 IsSafe path = All IsSafePart (slice_split (λ b. b == 47) path)
 

@@ -10,7 +10,7 @@ use Rattle.pot_turn.specs.declared.view.Sight.{Sight}
 use Rattle.pot_turn.specs.Logs.{StartsWith}
 use Rattle.pot_turn.specs.Stretches.{between, IsOnceEach}
 use Rattle.pot_turn.specs.Views.{stretches_of}
-use Rattle.pot_turn.specs.Rules.{total, holding, made_by, parts_of, times_in, turns_of, Fits, Ruled, first_sight, spent_sight}
+use Rattle.pot_turn.specs.Rules.{total, holding, made_by, parts_of, times_in, turns_of, FitsLog, Ruled, first_sight, spent_sight}
 use Rattle.pot_turn.proofs.LogLemmas.{starts_self, starts_length, starts_all}
 use Rattle.pot_turn.proofs.StretchLemmas.{between-empty, between_least, times_behind}
 use Rattle.pot_turn.proofs.Sums.{total-set, total_at, total_none}
@@ -35,7 +35,7 @@ module _ {T E O : Type 0} (log : T → List E) (origin : T → O) (opened : T) w
         made = omega arith;
         parts = omega arith;
         once = λ i. let none = between-empty i (length (log opened)) in omega (arith, none);
-        each = λ k u e. subst (Fits log origin opened (log opened)) (only v u k e) (record {
+        each = λ k u e. subst (FitsLog log origin opened (log opened)) (only v u k e) (record {
           begins = starts_self (log opened);
           agrees = ((log opened, refl), refl, refl);
           holder = λ p. absurd (true≢false (sym p));

@@ -9,7 +9,7 @@ use Rattle.pot_turn.specs.declared.view.Sight.{Sight}
 use Rattle.pot_turn.specs.Logs.{StartsWith, longer, shorter}
 use Rattle.pot_turn.specs.Stretches.{LieIn}
 use Rattle.pot_turn.specs.Views.{stretches_of}
-use Rattle.pot_turn.specs.Rules.{total, holding, made_by, parts_of, times_in, turns_of, Fits, Ruled, Looked, cut_sight, new_sight, both_sights, spent_sight}
+use Rattle.pot_turn.specs.Rules.{total, holding, made_by, parts_of, times_in, turns_of, FitsLog, Ruled, LookedAt, cut_sight, new_sight, both_sights, spent_sight}
 use Rattle.pot_turn.proofs.LogLemmas.{starts_trans, starts_length, longer_starts, longer_covers}
 use Rattle.pot_turn.proofs.StretchLemmas.{between_most, lies_longer, lies_append, lies_front, lies_rest}
 use Rattle.pot_turn.proofs.PassLemmas.{both-times}
@@ -41,7 +41,7 @@ module _ {T E O : Type 0} (log : T → List E) (origin : T → O) (opened : T) w
         once = λ i. (sum_stays (times_in i) s.views).to_new id v left right at (omega arith) ∙ r.once i;
         each = λ k u e. ⊎_elim
             (λ (old : get_elem? (set s.views id left) k ≡ some u). ⊎_elim
-            (λ (x : (k ≡ id) × (left ≡ u)). subst (Fits log origin opened r.whole) x.1 (record {
+            (λ (x : (k ≡ id) × (left ≡ u)). subst (FitsLog log origin opened r.whole) x.1 (record {
               begins = mine.begins;
               agrees = mine.agrees;
               holder = mine.holder;
@@ -52,7 +52,7 @@ module _ {T E O : Type 0} (log : T → List E) (origin : T → O) (opened : T) w
             }))
             (λ (x : (k ≢ id) × (get_elem? s.views k ≡ some u)). r.each k u x.1)
             (at_set s.views id k left u old))
-            (λ (new : right ≡ u). subst (Fits log origin opened r.whole) new (record {
+            (λ (new : right ≡ u). subst (FitsLog log origin opened r.whole) new (record {
               begins = mine.begins;
               agrees = ((v.view.seen, refl), refl, refl);
               holder = λ p. absurd (true≢false (sym p));
@@ -119,7 +119,7 @@ module _ {T E O : Type 0} (log : T → List E) (origin : T → O) (opened : T) w
         parts = parts ∙ r.parts;
         once = λ i. (sum_stays (times_in i) s.views).to_another id other v w both spent_sight at there (both_times i v w) ∙ r.once i;
         each = λ k u e. ⊎_elim
-            (λ (x : (k ≡ other) × (spent_sight ≡ u)). subst (Fits log origin opened r.whole) x.1 (record {
+            (λ (x : (k ≡ other) × (spent_sight ≡ u)). subst (FitsLog log origin opened r.whole) x.1 (record {
               begins = (r.whole, refl);
               agrees = (([], refl), refl, refl);
               holder = λ p. absurd (true≢false (sym p));
@@ -129,7 +129,7 @@ module _ {T E O : Type 0} (log : T → List E) (origin : T → O) (opened : T) w
               named = λ p. absurd (omega (arith, p));
             }))
             (λ (y : (k ≢ other) × (get_elem? views1 k ≡ some u)). ⊎_elim
-            (λ (x : (k ≡ id) × (both ≡ u)). subst (Fits log origin opened r.whole) x.1 (record {
+            (λ (x : (k ≡ id) × (both ≡ u)). subst (FitsLog log origin opened r.whole) x.1 (record {
               begins = logs.0;
               agrees = (logs.1, sym opening, (its.named some_parts').1 ∙ sym (mine.named some_parts).1);
               holder = λ p. absurd (true≢false (sym p ∙ idle));
@@ -146,7 +146,7 @@ module _ {T E O : Type 0} (log : T → List E) (origin : T → O) (opened : T) w
       }
 
   -- a pass may look at any time
-  looks : (id : ℕ) (v : Sight E O) → Allows (Ruled log origin opened) 1 id (v, []) 0 (λ n. n) (λ _. Looked (v, []))
+  looks : (id : ℕ) (v : Sight E O) → Allows (Ruled log origin opened) 1 id (v, []) 0 (λ n. n) (λ _. LookedAt (v, []))
   looks id v s r slots at small =
       let first : slice_index s.words 0 ≡ total holding s.views = ap (λ ws. slice_index ws 0) r.words in
       let mine = r.each id v at in
@@ -157,18 +157,18 @@ module _ {T E O : Type 0} (log : T → List E) (origin : T → O) (opened : T) w
       omega (arith, own, all, once) in
       (v, keeps, tt, same_state log origin opened s r id v at (slice_index s.words 0) (sym first), (refl, mine.agrees, mine.lies, most))
 
-  pub looks_it : (id : ℕ) (m : Me (Option T) (Sight E O)) → m.1 ≡ [] → Allows (Ruled log origin opened) 1 id m 0 (λ n. n) (λ _. Looked m)
+  pub looks_it : (id : ℕ) (m : Me (Option T) (Sight E O)) → m.1 ≡ [] → Allows (Ruled log origin opened) 1 id m 0 (λ n. n) (λ _. LookedAt m)
   looks_it id m out =
-      subst (λ (c : List (ℕ × Option T)). Allows (Ruled log origin opened) 1 id (m.0, c) 0 (λ n. n) (λ _. Looked (m.0, c))) (sym out)
+      subst (λ (c : List (ℕ × Option T)). Allows (Ruled log origin opened) 1 id (m.0, c) 0 (λ n. n) (λ _. LookedAt (m.0, c))) (sym out)
       (looks id m.0)
 
 module _ {T E O : Type 0} (m m' m'' : Me (Option T) (Sight E O)) (w : Sight E O) where
   -- the pass m took in w, and is m'' after its look
-  pub joined_is : IsIdle m → m' ≡ (both_sights m.0 w, m.1) → Looked m' m'' → m'' ≡ (both_sights m.0 w, [])
+  pub joined_is : IsIdle m → m' ≡ (both_sights m.0 w, m.1) → LookedAt m' m'' → m'' ≡ (both_sights m.0 w, [])
   joined_is idle joined looked = looked.0 ∙ (joined ∙ ap (λ (c : List (ℕ × Option T)). (both_sights m.0 w, c)) idle.2)
 
   -- which tells that its log begins with both logs, and that the stretches of both lie in it
-  pub joined_tells : m' ≡ (both_sights m.0 w, m.1) → Looked m' m''
+  pub joined_tells : m' ≡ (both_sights m.0 w, m.1) → LookedAt m' m''
       → StartsWith (longer m.0.view.seen w.view.seen) m.0.view.seen × StartsWith (longer m.0.view.seen w.view.seen) w.view.seen
       × LieIn (length m.0.view.opened) (stretches_of (both_sights m.0 w).view) (length (longer m.0.view.seen w.view.seen))
   joined_tells joined looked =

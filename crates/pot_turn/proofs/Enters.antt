@@ -9,7 +9,7 @@ use Rattle.atomic_table.proofs.Lists.{at_set, set_again}
 use Rattle.pot_turn.specs.declared.view.Sight.{Sight}
 use Rattle.pot_turn.specs.Logs.{StartsWith}
 use Rattle.pot_turn.specs.Views.{stretches_of}
-use Rattle.pot_turn.specs.Rules.{total, holding, made_by, parts_of, times_in, Fits, Ruled, Took, took_sight}
+use Rattle.pot_turn.specs.Rules.{total, holding, made_by, parts_of, times_in, FitsLog, Ruled, TookTurn, took_sight}
 use Rattle.pot_turn.proofs.LogLemmas.{starts_self, starts_trans, starts_length}
 use Rattle.pot_turn.proofs.StretchLemmas.{lies_longer}
 use Rattle.pot_turn.proofs.Sums.{total-set, total-same}
@@ -45,7 +45,7 @@ module _ {T E O : Type 0} (log : T → List E) (origin : T → O) (opened : T) w
       (m.0, keeps, tt, subst (λ (x : List (Sight E O)). Ruled log origin opened (record { words = set s.words 2 n; homes = s.homes; views = x })) (sym same) after, refl)
 
   abbrev Goes : State (Option T) (Sight E O) → ℕ → Sight E O → ℕ → Type 0
-  Goes s id v n = (w : Sight E O) × (a : Act (Option T)) × Valid s.homes [] a × Ruled log origin opened (stepped s 0 (either (n == 0) 1 n) id [] w a) × Took log origin (v, []) n (w, carried_after [] a)
+  Goes s id v n = (w : Sight E O) × (a : Act (Option T)) × Valid s.homes [] a × Ruled log origin opened (stepped s 0 (either (n == 0) 1 n) id [] w a) × TookTurn log origin (v, []) n (w, carried_after [] a)
 
   -- the lock is free, and the caller's
   free : (s : State (Option T) (Sight E O)) → Ruled log origin opened s → (id : ℕ) (v : Sight E O) → get_elem? s.views id ≡ some v → v.view.holds ≡ false → 0 < v.view.parts → total holding s.views ≡ 0 → Goes s id v 0
@@ -75,7 +75,7 @@ module _ {T E O : Type 0} (log : T → List E) (origin : T → O) (opened : T) w
           parts = omega (arith, parts, r.parts);
           once = λ i. total-same (times_in i) s.views id v w at refl ∙ r.once i;
           each = λ k u e. ⊎_elim
-              (λ (x : (k ≡ id) × (w ≡ u)). subst (Fits log origin opened r.whole) x.1 (record {
+              (λ (x : (k ≡ id) × (w ≡ u)). subst (FitsLog log origin opened r.whole) x.1 (record {
                 begins = subst (λ l. StartsWith r.whole l) (sym home.2) (starts_self r.whole);
                 agrees = (starts_trans (log value) v.view.seen v.told.seen begins mine.agrees.0, mine.agrees.1, mine.agrees.2);
                 holder = λ _. home.2;
@@ -102,29 +102,29 @@ module _ {T E O : Type 0} (log : T → List E) (origin : T → O) (opened : T) w
       let one : 1 ≡ suc n = omega arith in
       subst (Goes s id v) one (busy s r id v at (e ∙ sym one))
 
-  takes_turn : (id : ℕ) (v : Sight E O) → v.view.holds ≡ false → 0 < v.view.parts → Allows (Ruled log origin opened) 1 id (v, []) 0 (λ n. either (n == 0) 1 n) (Took log origin (v, []))
+  takes_turn : (id : ℕ) (v : Sight E O) → v.view.holds ≡ false → 0 < v.view.parts → Allows (Ruled log origin opened) 1 id (v, []) 0 (λ n. either (n == 0) 1 n) (TookTurn log origin (v, []))
   takes_turn id v idle some_parts s r slots at small =
       let first : slice_index s.words 0 ≡ total holding s.views = ap (λ ws. slice_index ws 0) r.words in
       let one = r.one in
       either_way s r id v at idle some_parts (slice_index s.words 0) (omega arith) (sym first)
 
-  pub takes_it : (id : ℕ) (m : Me (Option T) (Sight E O)) → IsIdle m → Allows (Ruled log origin opened) 1 id m 0 (λ n. either (n == 0) 1 n) (Took log origin m)
+  pub takes_it : (id : ℕ) (m : Me (Option T) (Sight E O)) → IsIdle m → Allows (Ruled log origin opened) 1 id m 0 (λ n. either (n == 0) 1 n) (TookTurn log origin m)
   takes_it id m idle =
-      subst (λ (c : List (ℕ × Option T)). Allows (Ruled log origin opened) 1 id (m.0, c) 0 (λ n. either (n == 0) 1 n) (Took log origin (m.0, c))) (sym idle.2)
+      subst (λ (c : List (ℕ × Option T)). Allows (Ruled log origin opened) 1 id (m.0, c) 0 (λ n. either (n == 0) 1 n) (TookTurn log origin (m.0, c))) (sym idle.2)
       (takes_turn id m.0 idle.0 idle.1)
 
 module _ {T E O : Type 0} (log : T → List E) (origin : T → O) where
   -- the value that was taken lies in the slot
-  pub taken : (m m' : Me (Option T) (Sight E O)) (n : ℕ) → n ≡ 0 → Took log origin m n m' → (x : Option T) × (m'.1 ≡ (0, x) ∷ rest m'.1)
+  pub taken : (m m' : Me (Option T) (Sight E O)) (n : ℕ) → n ≡ 0 → TookTurn log origin m n m' → (x : Option T) × (m'.1 ≡ (0, x) ∷ rest m'.1)
   taken m m' n is took =
-      let it : Took log origin m 0 m' = subst (λ (k : ℕ). Took log origin m k m') is took in
+      let it : TookTurn log origin m 0 m' = subst (λ (k : ℕ). TookTurn log origin m k m') is took in
       (Some it.0, it.1 ∙ ap (λ c. (0, Some it.0) ∷ c) (sym (ap rest it.1)))
 
   -- the caller has the value, and its slot is empty
-  pub took_is : (m m' m'' : Me (Option T) (Sight E O)) (n : ℕ) → n ≡ 0 → IsIdle m → Took log origin m n m' → m'' ≡ (m'.0, (0, None) ∷ rest m'.1)
+  pub took_is : (m m' m'' : Me (Option T) (Sight E O)) (n : ℕ) → n ≡ 0 → IsIdle m → TookTurn log origin m n m' → m'' ≡ (m'.0, (0, None) ∷ rest m'.1)
       → (v : T) × (m'' ≡ (took_sight (log v) m.0, (0, None) ∷ [])) × StartsWith (log v) m.0.view.seen
   took_is m m' m'' n is idle took out =
-      let it : Took log origin m 0 m' = subst (λ (k : ℕ). Took log origin m k m') is took in
+      let it : TookTurn log origin m 0 m' = subst (λ (k : ℕ). TookTurn log origin m k m') is took in
       let slots : rest m'.1 ≡ [] = ap rest it.1 ∙ idle.2 in
       let sight : m'.0 ≡ took_sight (log it.0) m.0 = it.3 in
       (it.0, out ∙ (λ i. (sight i, (0, None) ∷ slots i)), it.2)

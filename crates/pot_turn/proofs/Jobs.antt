@@ -10,7 +10,7 @@ use Rattle.std.proofs.Math.Seq.{drop-append_seam}
 use Rattle.pot_turn.specs.declared.view.View.{View}
 use Rattle.pot_turn.specs.declared.view.Stretch.{Stretch}
 use Rattle.pot_turn.specs.Logs.{StartsWith, longer}
-use Rattle.pot_turn.specs.Stretches.{stretch, times, Ascends, entries_in, IsOnceEach}
+use Rattle.pot_turn.specs.Stretches.{stretch, times, StretchesAscend, entries_in, IsOnceEach}
 use Rattle.pot_turn.specs.Jobs.{NoneIn, Carries, EntriesAreCarried}
 use Rattle.pot_turn.specs.Views.{stretches_of, logged_by, first_view, took_view, left_view, cut_view, new_view, both_views, IsPass}
 use Rattle.pot_turn.proofs.LogLemmas.{starts_length, get_front, get_back, get_drop, get_take, filter_none}
@@ -23,7 +23,7 @@ module _ {E : Type 0} (is_of : E → Bool) (log : List E) where
   Picked at ss = (i : ℕ) (e : E) → at ≤ i → slice_get log i ≡ Some e → times i ss ≡ 0 → is_of e ≡ false
 
   -- the entries of the job from a position on are those of the stretches, in their order
-  pub filter-drop : (at : ℕ) (ss : List Stretch) → Ascends at ss (length log) → Picked at ss → filter is_of (drop at log) ≡ filter is_of (entries_in log ss)
+  pub filter-drop : (at : ℕ) (ss : List Stretch) → StretchesAscend at ss (length log) → Picked at ss → filter is_of (drop at log) ≡ filter is_of (entries_in log ss)
   filter-drop at [] h picked =
       filter_none is_of (drop at log) (λ i e is. picked (at + i) e (omega arith) (sym (get_drop at log i) ∙ is) refl)
   filter-drop at (s ∷ ss) h picked =
@@ -116,7 +116,7 @@ module _ {E O : Type 0} (v : View E O) (pass : IsPass v) where
   logged-both w grown = logged-longer (longer v.seen w.seen) grown
 
   -- its own stretches ascend in each later log too
-  pub turns_ascend : (log : List E) → StartsWith log v.seen → Ascends (length v.opened) v.turns (length log)
+  pub turns_ascend : (log : List E) → StartsWith log v.seen → StretchesAscend (length v.opened) v.turns (length log)
   turns_ascend log grown = ascends_longer (length v.opened) v.turns (length v.seen) (length log) (starts_length log v.seen grown) pass.ascends
 
 -- The entries of a job that the passes carry, after each call
@@ -142,7 +142,7 @@ module _ {E O : Type 0} (is_of : E → Bool) (v : View E O) (pass : IsPass v) (e
   carries_longer w grown same others parted foreign = record {
     own = c.own;
     others = c.others ++ others;
-    ascends = subst (λ (k : List E). Ascends (length k) c.own (length w.seen)) (sym same) (ascends_longer (length v.opened) c.own (length v.seen) (length w.seen) (starts_length w.seen v.seen grown) c.ascends);
+    ascends = subst (λ (k : List E). StretchesAscend (length k) c.own (length w.seen)) (sym same) (ascends_longer (length v.opened) c.own (length v.seen) (length w.seen) (starts_length w.seen v.seen grown) c.ascends);
     parted = λ i. let all = parted i in let before = c.parted i in let sum = times-append i c.others others in omega (arith, all, before, sum);
     foreign = none_append is_of w.seen c.others others (none_longer is_of w.seen v.seen c.others grown others_within c.foreign) foreign;
     picked = ap (filter is_of) (entries_in-longer w.seen v.seen (length v.opened) c.own grown c.ascends) ∙ c.picked;
@@ -193,7 +193,7 @@ entries_are_carried v log seen begins once is_of entries c =
     let whole = once i in
     let parts = c.parted i in
     c.foreign i e (ap (λ w. slice_get w i) (sym seen) ∙ is) (omega (arith, here, whole, parts, none)) in
-    let ascends = subst (λ (k : List _). Ascends start c.own (length k)) (sym seen) c.ascends in
+    let ascends = subst (λ (k : List _). StretchesAscend start c.own (length k)) (sym seen) c.ascends in
     let later = filter-drop is_of log start c.own ascends picked in
     ap (filter is_of) begins.1
     ∙ (filter-append is_of v.opened begins.0

@@ -10,7 +10,7 @@ use Rattle.pot_turn.specs.declared.view.Sight.{Sight}
 use Rattle.pot_turn.specs.Logs.{StartsWith}
 use Rattle.pot_turn.specs.Stretches.{stretch, between, LieIn}
 use Rattle.pot_turn.specs.Views.{stretches_of}
-use Rattle.pot_turn.specs.Rules.{total, holding, made_by, parts_of, times_in, turns_of, Fits, Ruled, Raised, Freed, raised_sight, freed_sight}
+use Rattle.pot_turn.specs.Rules.{total, holding, made_by, parts_of, times_in, turns_of, FitsLog, Ruled, Raised, Freed, raised_sight, freed_sight}
 use Rattle.pot_turn.proofs.LogLemmas.{starts_self, starts_trans, starts_length}
 use Rattle.pot_turn.proofs.StretchLemmas.{between-split, lies_longer, lies_append, lies_rest, lies_front}
 use Rattle.pot_turn.proofs.PassLemmas.{left-times}
@@ -80,7 +80,7 @@ module _ {T E O : Type 0} (log : T → List E) (origin : T → O) (opened : T) w
               let same : between i (length (log opened)) (length r.whole) ≡ between i (length (log opened)) (length v.view.seen) = ap (between i (length (log opened))) (sym old_length) in
               omega (arith, set1, new, before, parted, same);
           each = λ k u e. ⊎_elim
-              (λ (y : (k ≡ id) × (w ≡ u)). subst (Fits log origin opened (log x)) y.1 (record {
+              (λ (y : (k ≡ id) × (w ≡ u)). subst (FitsLog log origin opened (log x)) y.1 (record {
                 begins = starts_self (log x);
                 agrees = (starts_trans (log x) v.view.seen v.told.seen grown mine.agrees.0, mine.agrees.1, mine.agrees.2);
                 holder = λ _. refl;
@@ -146,7 +146,7 @@ module _ {T E O : Type 0} (log : T → List E) (origin : T → O) (opened : T) w
           parts = total-same parts_of s.views id v w at refl ∙ r.parts;
           once = λ i. total-same (times_in i) s.views id v w at refl ∙ r.once i;
           each = λ k u e. ⊎_elim
-              (λ (y : (k ≡ id) × (w ≡ u)). subst (Fits log origin opened r.whole) y.1 (record {
+              (λ (y : (k ≡ id) × (w ≡ u)). subst (FitsLog log origin opened r.whole) y.1 (record {
                 begins = mine.begins;
                 agrees = mine.agrees;
                 holder = λ h. absurd (true≢false (sym h));

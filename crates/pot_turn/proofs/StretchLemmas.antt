@@ -6,7 +6,7 @@ use Rattle.std.proofs.lemmas.List.{take-append-le, drop-append-le}
 use Rattle.std.proofs.Math.Seq.{drop-append_seam}
 use Rattle.pot_turn.specs.declared.view.Stretch.{Stretch}
 use Rattle.pot_turn.specs.Logs.{StartsWith}
-use Rattle.pot_turn.specs.Stretches.{stretch, between, times, size_of, Ascends, LieIn, entries_in}
+use Rattle.pot_turn.specs.Stretches.{stretch, between, times, size_of, StretchesAscend, LieIn, entries_in}
 
 -- a position up to c stands before b or from b on
 pub between-split : (i a b c : ℕ) → a ≤ b → b ≤ c → between i a c ≡ between i a b + between i b c
@@ -50,25 +50,25 @@ pub size_of-append : (xs ys : List Stretch) → size_of (xs ++ ys) ≡ size_of x
 size_of-append [] ys = omega arith
 size_of-append (x ∷ xs) ys = let rest = size_of-append xs ys in omega (arith, rest)
 
-pub ascends_longer : (at : ℕ) (ss : List Stretch) (a b : ℕ) → a ≤ b → Ascends at ss a → Ascends at ss b
+pub ascends_longer : (at : ℕ) (ss : List Stretch) (a b : ℕ) → a ≤ b → StretchesAscend at ss a → StretchesAscend at ss b
 ascends_longer at [] a b le h = omega (arith, le, h)
 ascends_longer at (s ∷ ss) a b le h = (h.0, h.1, ascends_longer s.upto ss a b le h.2)
 
-pub ascends_snoc : (at : ℕ) (ss : List Stretch) (a b : ℕ) → a ≤ b → Ascends at ss a → Ascends at (ss ++ stretch a b ∷ []) b
+pub ascends_snoc : (at : ℕ) (ss : List Stretch) (a b : ℕ) → a ≤ b → StretchesAscend at ss a → StretchesAscend at (ss ++ stretch a b ∷ []) b
 ascends_snoc at [] a b le h = (h, le, omega arith)
 ascends_snoc at (s ∷ ss) a b le h = (h.0, h.1, ascends_snoc s.upto ss a b le h.2)
 
-pub ascends_bounds : (at : ℕ) (ss : List Stretch) (upto : ℕ) → Ascends at ss upto → at ≤ upto
+pub ascends_bounds : (at : ℕ) (ss : List Stretch) (upto : ℕ) → StretchesAscend at ss upto → at ≤ upto
 ascends_bounds at [] upto h = h
 ascends_bounds at (s ∷ ss) upto h = let rest = ascends_bounds s.upto ss upto h.2 in omega (arith, rest, h.0, h.1)
 
 -- stretches that follow those before them
-pub ascends_both : (at : ℕ) (xs ys : List Stretch) (b c d : ℕ) → Ascends at xs b → b ≤ c → Ascends c ys d → Ascends at (xs ++ ys) d
+pub ascends_both : (at : ℕ) (xs ys : List Stretch) (b c d : ℕ) → StretchesAscend at xs b → b ≤ c → StretchesAscend c ys d → StretchesAscend at (xs ++ ys) d
 ascends_both at [] [] b c d p le q = omega (arith, p, le, q)
 ascends_both at [] (y ∷ ys) b c d p le q = (omega (arith, p, le, q.0), q.1, q.2)
 ascends_both at (x ∷ xs) ys b c d p le q = (p.0, p.1, ascends_both x.upto xs ys b c d p.2 le q)
 
-pub ascends_lower : (a b : ℕ) (ss : List Stretch) (upto : ℕ) → a ≤ b → Ascends b ss upto → Ascends a ss upto
+pub ascends_lower : (a b : ℕ) (ss : List Stretch) (upto : ℕ) → a ≤ b → StretchesAscend b ss upto → StretchesAscend a ss upto
 ascends_lower a b [] upto le h = omega (arith, le, h)
 ascends_lower a b (s ∷ ss) upto le h = (omega (arith, le, h.0), h.1, h.2)
 
@@ -97,7 +97,7 @@ lies_front at [] ys upto h = lies_bounds at ys upto h
 lies_front at (x ∷ xs) ys upto h = (h.0, h.1, lies_front at xs ys upto h.2)
 
 -- stretches that ascend lie between their ends
-pub ascends_lies : (at : ℕ) (ss : List Stretch) (upto : ℕ) → Ascends at ss upto → LieIn at ss upto
+pub ascends_lies : (at : ℕ) (ss : List Stretch) (upto : ℕ) → StretchesAscend at ss upto → LieIn at ss upto
 ascends_lies at [] upto h = h
 ascends_lies at (s ∷ ss) upto h =
     let least = ascends_bounds s.upto ss upto h.2 in
@@ -133,7 +133,7 @@ module _ {E : Type 0} where
   take_whole (x ∷ xs) = ap (λ w. x ∷ w) (take_whole xs)
 
   -- the entries in stretches of a beginning are those of the whole
-  pub entries_in-longer : (log seen : List E) (at : ℕ) (ss : List Stretch) → StartsWith log seen → Ascends at ss (length seen) → entries_in log ss ≡ entries_in seen ss
+  pub entries_in-longer : (log seen : List E) (at : ℕ) (ss : List Stretch) → StartsWith log seen → StretchesAscend at ss (length seen) → entries_in log ss ≡ entries_in seen ss
   entries_in-longer log seen at [] grown h = refl
   entries_in-longer log seen at (s ∷ ss) grown h =
       let least = ascends_bounds s.upto ss (length seen) h.2 in

@@ -3,7 +3,7 @@ use Rattle.std.specs.Prelude.{◌≡◌, ℕ, ◌+◌, ◌<◌, ◌≤◌, List,
 use Rattle.std.specs.Prelude.{Bool, false}
 use Rattle.pot_turn.specs.declared.view.View.{View}
 use Rattle.pot_turn.specs.declared.view.Stretch.{Stretch}
-use Rattle.pot_turn.specs.Stretches.{times, Ascends, entries_in}
+use Rattle.pot_turn.specs.Stretches.{times, StretchesAscend, entries_in}
 use Rattle.pot_turn.specs.Views.{stretches_of}
 
 -- no entry that stands in these stretches of the log is of the job
@@ -17,7 +17,7 @@ pub record Carries {E O : Type 0} (is_of : E → Bool) (v : View E O) (entries :
     0 where
   pub own : List Stretch
   pub others : List Stretch
-  pub ascends : Ascends (length v.opened) own (length v.seen)
+  pub ascends : StretchesAscend (length v.opened) own (length v.seen)
   pub parted : (i : ℕ) → times i (stretches_of v) ≡ times i own + times i others
   pub foreign : NoneIn is_of v.seen others
   pub picked : filter is_of (entries_in v.seen own) ≡ entries
@@ -36,7 +36,7 @@ pub record CarriesBetween {E O : Type 0} (is_of : E → Bool) (from upto : ℕ) 
   pub own : List Stretch
   pub others : List Stretch
   pub within : upto ≤ length v.seen
-  pub ascends : Ascends from own upto
+  pub ascends : StretchesAscend from own upto
   pub parted : (i : ℕ) → times i (stretches_of v) ≡ times i own + times i others
   pub foreign : NoneIn is_of v.seen others
   pub picked : filter is_of (entries_in v.seen own) ≡ entries

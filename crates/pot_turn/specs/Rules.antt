@@ -96,8 +96,8 @@ module _ {E O : Type 0} where
   turns_of s = length (stretches_of s.view)
 
   -- the log seen begins with what was told, and the opening log and the origin are the same
-  abbrev pub Agrees : View E O → Told E O → Type 0
-  Agrees v t = StartsWith v.seen t.seen × (t.opened ≡ v.opened) × (t.origin ≡ v.origin)
+  abbrev pub AgreesWithTold : View E O → Told E O → Type 0
+  AgreesWithTold v t = StartsWith v.seen t.seen × (t.opened ≡ v.opened) × (t.origin ≡ v.origin)
 
 -- the sum over all members
 abbrev pub total : {V : Type 0} → (V → ℕ) → List V → ℕ
@@ -107,9 +107,9 @@ total f (v ∷ vs) = f v + total f vs
 module _ {T E O : Type 0} (log : T → List E) (origin : T → O) (opened : T) where
   -- A pass has seen a beginning of the whole log, and the holder all of it. A spent pass knows
   -- nothing, and any other has seen the opening log and carries the origin
-  pub record Fits (whole : List E) (s : Sight E O) : Type 0 where
+  pub record FitsLog (whole : List E) (s : Sight E O) : Type 0 where
     pub begins : StartsWith whole s.view.seen
-    pub agrees : Agrees s.view s.told
+    pub agrees : AgreesWithTold s.view s.told
     pub holder : s.view.holds ≡ true → s.view.seen ≡ whole
     pub spent : s.view.parts ≡ 0 → s ≡ spent_sight
     pub since : StartsWith s.view.seen s.view.opened
@@ -130,7 +130,7 @@ module _ {T E O : Type 0} (log : T → List E) (origin : T → O) (opened : T) w
     pub made : total made_by s.views + length (log opened) ≡ length whole
     pub parts : total parts_of s.views ≡ 2 ^ 62
     pub once : (i : ℕ) → total (times_in i) s.views ≡ between i (length (log opened)) (length whole)
-    pub each : (k : ℕ) (v : Sight E O) → get_elem? s.views k ≡ some v → Fits whole v
+    pub each : (k : ℕ) (v : Sight E O) → get_elem? s.views k ≡ some v → FitsLog whole v
     pub home : total holding s.views ≡ 0
         → (v : T) × (s.homes ≡ some (Some v) ∷ []) × (log v ≡ whole) × (origin v ≡ origin opened)
         × (total turns_of s.views ≡ 0 → v ≡ opened)
@@ -139,11 +139,11 @@ module _ {T E O : Type 0} (log : T → List E) (origin : T → O) (opened : T) w
 module _ {T E O : Type 0} (log : T → List E) (origin : T → O) where
   -- the lock was free, and the caller has the value, whose log begins with all that it had seen; or
   -- nothing changed
-  abbrev pub Took : Me (Option T) (Sight E O) → ℕ → Me (Option T) (Sight E O) → Type 0
-  Took m zero m' =
+  abbrev pub TookTurn : Me (Option T) (Sight E O) → ℕ → Me (Option T) (Sight E O) → Type 0
+  TookTurn m zero m' =
       (v : T) × (m'.1 ≡ (0, Some v) ∷ m.1) × StartsWith (log v) m.0.view.seen
       × (m'.0 ≡ took_sight (log v) m.0) × (Some (origin v) ≡ m.0.view.origin)
-  Took m (suc n) m' = m' ≡ m
+  TookTurn m (suc n) m' = m' ≡ m
 
 module _ {T E O : Type 0} (log : T → List E) where
   -- the log of the value in the slot is the whole one from now on
@@ -156,9 +156,9 @@ Freed m m' = m' ≡ (freed_sight m.0, [])
 
 -- nothing changed; what a join left agrees with what the pass knows, its stretches lie in the log
 -- seen, and no position stands in two of them
-abbrev pub Looked : {T E O : Type 0} → Me T (Sight E O) → Me T (Sight E O) → Type 0
-Looked m m' =
-    (m' ≡ m) × Agrees m.0.view m.0.told
+abbrev pub LookedAt : {T E O : Type 0} → Me T (Sight E O) → Me T (Sight E O) → Type 0
+LookedAt m m' =
+    (m' ≡ m) × AgreesWithTold m.0.view m.0.told
     × LieIn (length m.0.view.opened) (stretches_of m.0.view) (length m.0.view.seen)
     × ((i : ℕ) → times_in i m.0 ≤ 1)
 

@@ -24,16 +24,16 @@ size_of [] = 0
 size_of (s ∷ ss) = (s.upto - s.from) + size_of ss
 
 -- the stretches follow one another between two positions
-abbrev pub Ascends : ℕ → List Stretch → ℕ → Type 0
-Ascends at [] upto = at ≤ upto
-Ascends at (s ∷ ss) upto = (at ≤ s.from) × (s.from ≤ s.upto) × Ascends s.upto ss upto
+abbrev pub StretchesAscend : ℕ → List Stretch → ℕ → Type 0
+StretchesAscend at [] upto = at ≤ upto
+StretchesAscend at (s ∷ ss) upto = (at ≤ s.from) × (s.from ≤ s.upto) × StretchesAscend s.upto ss upto
 
 -- each stretch lies between two positions
 abbrev pub LieIn : ℕ → List Stretch → ℕ → Type 0
 LieIn at [] upto = at ≤ upto
 LieIn at (s ∷ ss) upto = (at ≤ s.from) × (s.upto ≤ upto) × LieIn at ss upto
 
-pub Ascends-prop : (at : ℕ) (ss : List Stretch) (upto : ℕ) → IsProp (Ascends at ss upto)
+pub Ascends-prop : (at : ℕ) (ss : List Stretch) (upto : ℕ) → IsProp (StretchesAscend at ss upto)
 Ascends-prop at [] upto = le_prop
 Ascends-prop at (s ∷ ss) upto = ×₃_prop le_prop le_prop (Ascends-prop s.upto ss upto)
 

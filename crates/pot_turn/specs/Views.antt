@@ -7,7 +7,7 @@ use Rattle.std.proofs.Math.Nat.{ℕ_set}
 use Rattle.pot_turn.specs.declared.view.View.{View}
 use Rattle.pot_turn.specs.declared.view.Stretch.{Stretch}
 use Rattle.pot_turn.specs.Logs.{StartsWith, StartsWith-prop, longer}
-use Rattle.pot_turn.specs.Stretches.{stretch, size_of, entries_in, Ascends, LieIn, Ascends-prop}
+use Rattle.pot_turn.specs.Stretches.{stretch, size_of, entries_in, StretchesAscend, LieIn, Ascends-prop}
 use Rattle.pot_turn.specs.Stretches.{LieIn-prop}
 
 module _ {E O : Type 0} where
@@ -130,7 +130,7 @@ module _ {E O : Type 0} where
     pub some : 0 < v.parts
     pub origin : IsSome v.origin
     pub since : StartsWith v.seen v.opened
-    pub ascends : Ascends (length v.opened) v.turns (length v.seen)
+    pub ascends : StretchesAscend (length v.opened) v.turns (length v.seen)
     pub lies : LieIn (length v.opened) v.joined (length v.seen)
     pub made : v.made ≡ size_of v.turns + size_of v.joined
 

@@ -24,9 +24,9 @@ pub struct Take<T> {
 }
 
 impl<T: Kept> Play<Option<T>, Sight<T::Entry, T::Origin>> for Take<T> {
-    ghost use Rattle.pot_turn.specs.Rules.{Took};
+    ghost use Rattle.pot_turn.specs.Rules.{TookTurn};
 
-    ghost then = { λ st m n m'. Took T.log T.origin m n m' };
+    ghost then = { λ st m n m'. TookTurn T.log T.origin m n m' };
 }
 
 /// The step that counts what was logged.
@@ -62,9 +62,9 @@ impl<T, E, O> Play<Option<T>, Sight<E, O>> for Doze {
 pub struct Look;
 
 impl<T, E, O> Play<Option<T>, Sight<E, O>> for Look {
-    ghost use Rattle.pot_turn.specs.Rules.{Looked};
+    ghost use Rattle.pot_turn.specs.Rules.{LookedAt};
 
-    ghost then = { λ st m n m'. Looked m m' };
+    ghost then = { λ st m n m'. LookedAt m m' };
 }
 
 /// A number of parts. Each call picks it.

@@ -13,8 +13,8 @@ use Rattle.pot_shard.specs.Stretches.{piece_start}
 use Rattle.pot_shard.proofs.BlockLemmas.{part_within}
 use Rattle.pot_shard.proofs.FileLemmas.{is_piece}
 use Rattle.pot_veil.specs.Explained.{explained, explained_file, explained_upto, with_part}
-use Rattle.pot_veil.specs.PieceLaws.{IsVeiled}
-use Rattle.pot_veil.specs.FileLaws.{FileLaws, IsVeiledFile}
+use Rattle.pot_veil.specs.PieceLaws.{IsPieceVeiled}
+use Rattle.pot_veil.specs.FileLaws.{FileVeilLaws, IsVeiledFile}
 use Rattle.pot_veil.proofs.Parts.{AreBytes-with_part, length-with_part, part-same, part-in, take-before}
 use Rattle.pot_veil.proofs.Pieces.{piece_laws}
 use Rattle.pot_veil.proofs.Rewriting.{put_is}
@@ -31,7 +31,7 @@ module _ (g : Geometry) (file other : List ℕ) (hidden : ℕ → ℕ) (seen : �
   abbrev upto : ℕ → List ℕ
   upto n = explained_upto g file other hidden seen random n
 
-  pub veiled : (i : ℕ) → i < pieces → IsVeiled g (object_in file random i) (object_in other random i) (hidden i) (seen i) (piece_random g i random)
+  pub veiled : (i : ℕ) → i < pieces → IsPieceVeiled g (object_in file random i) (object_in other random i) (hidden i) (seen i) (piece_random g i random)
   veiled i li = record {
     piece = is_piece g file random i v.store li;
     other_piece = is_piece g other random i v.other_store (subst (λ n. i < pieces_of n) (sym v.same_length) li);
@@ -206,7 +206,7 @@ module _ (g : Geometry) (file other : List ℕ) (hidden : ℕ → ℕ) (seen : �
       ∙ ap (explained g (object_in other random i) (object_in file random i) (hidden i) (seen i)) (piece_is g file other hidden seen random v i lf)
       ∙ piece_laws.back g (object_in file random i) (object_in other random i) (hidden i) (seen i) (piece_random g i random) (veiled g file other hidden seen random v i lf)))
 
-pub file_laws : FileLaws
+pub file_laws : FileVeilLaws
 file_laws = record {
   store = kept_store;
   others = λ g file other hidden seen random i j v li lj ne. file_others g file other hidden seen random v i j li lj ne;

@@ -14,7 +14,7 @@ use Rattle.pot_shard.specs.declared.shard.Shard.{Shard}
 use Rattle.pot_shard.proofs.PlaceLemmas.{block_of_object}
 use Rattle.pot_veil.specs.Drills.{is_seen_at}
 use Rattle.pot_veil.specs.Explained.{content_at, explained}
-use Rattle.pot_veil.specs.PieceLaws.{IsVeiled}
+use Rattle.pot_veil.specs.PieceLaws.{IsPieceVeiled}
 use Rattle.pot_veil.proofs.Pieces.{piece_laws}
 
 -- a place by fragment and point
@@ -53,7 +53,7 @@ any_default [] k d e lt = absurd (omega arith)
 any_default (x ∷ xs) zero d e lt = refl
 any_default (x ∷ xs) (suc k) d e lt = any_default xs k d e (omega arith)
 
-shards_kept : (g : Geometry) (o other : List ℕ) (hidden : ℕ) (seen random : List ℕ) (j p : ℕ) → IsVeiled g o other hidden seen random
+shards_kept : (g : Geometry) (o other : List ℕ) (hidden : ℕ) (seen random : List ℕ) (j p : ℕ) → IsPieceVeiled g o other hidden seen random
     → j < g.fragments → p < g.shards → (not (nat_eq j hidden) || list_any (λ x. nat_eq x (p + 1)) seen) ≡ true
     → shard_of_piece g other (explained g o other hidden seen random) j p ≡ shard_of_piece g o random j p
 unfolding shard_of_piece
@@ -75,7 +75,7 @@ shards_kept g o other hidden seen random j p v lj lp holds =
     ]
 
 pub kept : (g : Geometry) (id file other : List ℕ) (piece hidden : ℕ) (seen random : List ℕ) (place : ℕ)
-    → IsVeiled g (object id file piece) (object id other piece) hidden seen random → 0 < g.shards → place < g.fragments * g.shards
+    → IsPieceVeiled g (object id file piece) (object id other piece) hidden seen random → 0 < g.shards → place < g.fragments * g.shards
     → is_seen_at g hidden seen place ≡ true
     → get_or (piece_blocks g id other piece (explained g (object id file piece) (object id other piece) hidden seen random)) place []
     ≡ get_or (piece_blocks g id file piece random) place []

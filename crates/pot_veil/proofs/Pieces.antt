@@ -16,7 +16,7 @@ use Rattle.pot_shard.proofs.BlockLemmas.{part_within}
 use Rattle.pot_shard.proofs.FileLemmas.{content_of-bytes, length-content_of, length-pads, whole_rows}
 use Rattle.pot_shard.proofs.VeilLemmas.{veil_laws}
 use Rattle.pot_veil.specs.Explained.{content_at, explained, rows_len, rows_start, with_pads, with_part}
-use Rattle.pot_veil.specs.PieceLaws.{IsVeiled, PieceLaws}
+use Rattle.pot_veil.specs.PieceLaws.{IsPieceVeiled, PieceLaws}
 use Rattle.pot_veil.proofs.Parts.{AreBytes-with_part, drop-past, length-with_part, part-in, part-inside, part-same, put_back, take-before}
 
 -- a content hangs on the id and the pads alone
@@ -104,7 +104,7 @@ module _ (g : Geometry) (object other : List ℕ) (j : ℕ) (random : List ℕ) 
       part-same (fragment_len g) (rows_start g i) 16 new_pads random pads_fit (within i li)
       (inr (let n : length new_pads ≡ (g.fragments - 1) * 928 = length-new_pads in omega arith))
 
-module _ (g : Geometry) (object other : List ℕ) (j : ℕ) (seen random : List ℕ) (v : IsVeiled g object other j seen random) where
+module _ (g : Geometry) (object other : List ℕ) (j : ℕ) (seen random : List ℕ) (v : IsPieceVeiled g object other j seen random) where
   abbrev pub with_new_pads : List ℕ
   with_new_pads = with_pads g object other j random
 
@@ -263,7 +263,7 @@ module _ (g : Geometry) (object other : List ℕ) (j : ℕ) (seen random : List 
 -- TAKEN BACK
 
 -- the explanation in the other direction has the contents exchanged
-module _ (g : Geometry) (object other : List ℕ) (j : ℕ) (seen random : List ℕ) (v : IsVeiled g object other j seen random) where
+module _ (g : Geometry) (object other : List ℕ) (j : ℕ) (seen random : List ℕ) (v : IsPieceVeiled g object other j seen random) where
   abbrev r : List ℕ
   r = now g object other j seen random v
 

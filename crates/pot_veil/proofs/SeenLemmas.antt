@@ -7,7 +7,7 @@ use Rattle.std.proofs.lemmas.List.Elements.{All-from_get_or}
 use Rattle.std.proofs.lemmas.Map.Keys.{IsDistinct-cons}
 use Rattle.pot_bytes.specs.Lists.{AreBytes}
 use Rattle.pot_gf.proofs.Values.{get_or-end}
-use Rattle.pot_split.specs.Threshold.{ArePoints}
+use Rattle.pot_split.specs.Threshold.{AreNonzero}
 use Rattle.pot_veil.specs.Seen.{AreSeen}
 
 differ : (a b : ℕ) → a < b → nat_eq a b ≡ false
@@ -27,7 +27,7 @@ apart (a ∷ xs) h =
 pub seen_distinct : (n : ℕ) (seen : List ℕ) → AreSeen n seen → IsDistinct nat_eq seen
 seen_distinct n seen s = apart seen s.ascending
 
-pub seen_points : (n : ℕ) (seen : List ℕ) → AreSeen n seen → ArePoints seen
+pub seen_points : (n : ℕ) (seen : List ℕ) → AreSeen n seen → AreNonzero seen
 seen_points n seen s i lt = let b = s.each i lt in omega (arith, b.0)
 
 pub seen_some : (n : ℕ) (seen : List ℕ) → AreSeen n seen → All (λ x. 0 < x) seen

@@ -11,7 +11,7 @@ use Rattle.pot_bytes.proofs.Elements.{at_range}
 use Rattle.pot_gf.proofs.Values.{get_or-end}
 use Rattle.pot_object.specs.Pieces.{pieces_of}
 use Rattle.pot_pointer.proofs.FilterLemmas.{Contains-filter}
-use Rattle.pot_split.specs.Threshold.{ArePoints}
+use Rattle.pot_split.specs.Threshold.{AreNonzero}
 use Rattle.pot_shard.specs.Places.{block_in, shard_in, place_at}
 use Rattle.pot_shard.specs.Shards.{shard_bytes}
 use Rattle.pot_shard.specs.declared.shard.Shard.{Shard}
@@ -50,7 +50,7 @@ passing_has test n p lt holds =
 
 -- A COALITION
 
-points_are : (coalition : List Spot) (s : Split) (i j : ℕ) → ArePoints (seen_points coalition s i j)
+points_are : (coalition : List Spot) (s : Split) (i j : ℕ) → AreNonzero (seen_points coalition s i j)
 points_are coalition s i j k lt =
     let b = passing_bounds (λ p. is_seen coalition (place_at s.geometry s.places i j p)) s.geometry.shards k lt in
     omega (arith, b.0)

@@ -45,7 +45,7 @@ pub record IsReport (g : Geometry) (file other : List ℕ) (hidden : ℕ)
 
 -- It is exposed exactly where as many points are seen as are needed or more, and else memory was
 -- not found. The random bytes are then as they were.
-abbrev pub IsFault : Geometry → ℕ → List ℕ → List ℕ → List ℕ → DrillFault → Type 0
-IsFault g number seen random now (Exposed f h n) =
+abbrev pub IsDrillFault : Geometry → ℕ → List ℕ → List ℕ → List ℕ → DrillFault → Type 0
+IsDrillFault g number seen random now (Exposed f h n) =
     (g.need ≤ length seen) × (f ≡ number) × (h ≡ length seen) × (n ≡ g.need) × (now ≡ random)
-IsFault g number seen random now NoMemory = (length seen < g.need) × (now ≡ random)
+IsDrillFault g number seen random now NoMemory = (length seen < g.need) × (now ≡ random)

@@ -3,14 +3,14 @@ use Rattle.std.specs.Prelude.{◌≡◌, ◌≢◌, ◌<◌, ℕ, ◌+◌, List,
 use Rattle.pot_bytes.specs.Lists.{AreBytes}
 use Rattle.pot_bytes.specs.declared.rack.Geometry.{Geometry}
 use Rattle.pot_object.specs.Pieces.{pieces_of}
-use Rattle.pot_split.specs.Threshold.{ArePoints}
+use Rattle.pot_split.specs.Threshold.{AreNonzero}
 use Rattle.pot_shard.specs.FileLaws.{IsStore, shards_in}
 use Rattle.pot_shard.specs.Places.{shard_in}
 use Rattle.pot_veil.specs.Explained.{explained_file}
 
 -- fewer seen points than are needed
-pub record AreFew (g : Geometry) (seen : List ℕ) : Type 0 where
-  pub points : ArePoints seen
+pub record AreFewPoints (g : Geometry) (seen : List ℕ) : Type 0 where
+  pub points : AreNonzero seen
   pub bytes : AreBytes seen
   pub few : length seen < g.need
 
@@ -22,9 +22,9 @@ pub record IsVeiledFile (g : Geometry) (file other : List ℕ) (hidden : ℕ →
   pub other_store : IsStore g other random
   pub same_length : length other ≡ length file
   pub fragment : (i : ℕ) → i < pieces_of (length file) → hidden i < g.fragments
-  pub points : (i : ℕ) → i < pieces_of (length file) → AreFew g (seen i)
+  pub points : (i : ℕ) → i < pieces_of (length file) → AreFewPoints g (seen i)
 
-pub record FileLaws : Type 0 where
+pub record FileVeilLaws : Type 0 where
   -- they are random bytes that a store of the other file takes
   pub store : (g : Geometry) (file other : List ℕ) (hidden : ℕ → ℕ) (seen : ℕ → List ℕ)
       (random : List ℕ)

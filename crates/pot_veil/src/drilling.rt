@@ -1,4 +1,5 @@
-//! Two files of one length, of which the second gives all that is seen of the first, under other random bytes.
+//! Two files of one length, of which the second gives all that is seen of the first, under other
+//! random bytes.
 ghost use Rattle.std.specs.Prelude.{◌≡◌, ◌≤◌, ◌<◌, ◌-◌, ◌*◌, ◌++◌, [], List, ℕ, length};
 ghost use Rattle.std.specs.Prelude.{slice_index_or, true, IfOk, IfErr, if◌then◌else◌};
 ghost use Rattle.sha2.specs.Hashers.{Holds256};
@@ -7,7 +8,8 @@ ghost use Rattle.pot_bytes.specs.Rack.{IsGeometry};
 ghost use Rattle.pot_object.specs.Objects.{object};
 ghost use Rattle.pot_object.specs.Pieces.{longest, pieces_of};
 ghost use Rattle.pot_shard.specs.FileBlocks.{piece_blocks, piece_len, random_len};
-ghost use Rattle.pot_veil.specs.Drills.{is_seen_at, seen_in, seen_upto, text_of, IsFault, IsReport};
+ghost use Rattle.pot_veil.specs.Drills.{is_seen_at, seen_in, seen_upto, text_of, IsDrillFault};
+ghost use Rattle.pot_veil.specs.Drills.{IsReport};
 ghost use Rattle.pot_veil.specs.Explained.{explained, explained_file};
 ghost use Rattle.pot_veil.specs.Seen.{AreSeen};
 
@@ -47,14 +49,15 @@ impl From<AllocError> for DrillFault {
     }
 }
 
-/// Explains every piece of a file by that of another file of its length, and counts and digests all seen blocks, which both
-/// files give: those of every other fragment, and those of this one at the seen points. The fragment's number is from 1.
+/// Explains every piece of a file by that of another file of its length, and counts and digests all
+/// seen blocks, which both files give: those of every other fragment, and those of this one at the
+/// seen points. The fragment's number is from 1.
 ///
 /// With the files exchanged it gives the random bytes back (`file_laws`).
 ///
 /// # Errors
-/// `Exposed` exactly where as many points are seen as are needed or more, else `NoMemory`. The random bytes are then as they
-/// were.
+/// `Exposed` exactly where as many points are seen as are needed or more, else `NoMemory`. The
+/// random bytes are then as they were.
 pub fn drill(
     alloc: Global,
     file: &[u8],
@@ -73,7 +76,8 @@ pub fn drill(
     requires seen { AreSeen geometry.now.shards seen.now }
     ensures report { IfOk result (λ r. IsReport geometry.now file.now other.now (fragment - 1)
         seen.now random.old random.new r) }
-    ensures fault { IfErr result (λ e. IsFault geometry.now fragment seen.now random.old random.new
+    ensures fault { IfErr result (λ e. IsDrillFault geometry.now fragment seen.now random.old
+        random.new
         e) }
 {
     if seen.len() >= usize::from(geometry.need) {
@@ -107,7 +111,8 @@ pub fn drill(
     })
 }
 
-/// Explains all pieces one after another, and takes their seen blocks. The number is how many they are.
+/// Explains all pieces one after another, and takes their seen blocks. The number is how many they
+/// are.
 fn drill_pieces(
     file: &[u8],
     other: &[u8],
@@ -179,7 +184,8 @@ fn take_block(seen: bool, before: &Block, after: &Block, taken: &mut Sha256) -> 
     1
 }
 
-/// Compares the blocks of a piece that are seen, and takes those that are the same. The number is how many they are.
+/// Compares the blocks of a piece that are seen, and takes those that are the same. The number is
+/// how many they are.
 fn compare(
     before: &[Block],
     after: &[Block],
@@ -245,7 +251,8 @@ fn are_bytes(bytes: &[u8])
     let _first = bytes.first();
 }
 
-/// Explains a piece, and compares its seen blocks before and after. The number is how many they are.
+/// Explains a piece, and compares its seen blocks before and after. The number is how many they
+/// are.
 fn drill_piece(
     id: &[u8; 16],
     file: &[u8],

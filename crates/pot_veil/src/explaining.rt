@@ -13,11 +13,12 @@ use pot_gf::Poly;
 use pot_object::{CONTENT, OBJECT};
 use pot_shard::{fragment_content, fragment_len, head_len, rows_len};
 
-/// Changes the random bytes of a piece so that another object gives the same shares at the seen points of a fragment,
-/// and the same blocks of every other fragment. Called again with the two objects exchanged, it gives them back.
+/// Changes the random bytes of a piece so that another object gives the same shares at the seen
+/// points of a fragment, and the same blocks of every other fragment. Called again with the two
+/// objects exchanged, it gives them back.
 ///
-/// The fragment's number is from 1. Its pad changes, but for the last fragment, which has none, and its coefficients.
-/// The seen points are fewer than are needed. It takes no memory.
+/// The fragment's number is from 1. Its pad changes, but for the last fragment, which has none, and
+/// its coefficients. The seen points are fewer than are needed. It takes no memory.
 pub fn explain(
     object: &[u8; OBJECT],
     other: &[u8; OBJECT],
@@ -65,7 +66,8 @@ fn explain_pad(
     }
 }
 
-/// Changes the coefficients of a content to those with which another content has the same shares at the seen points.
+/// Changes the coefficients of a content to those with which another content has the same shares at
+/// the seen points.
 fn explain_rows(content: &[u8; CONTENT], other: &[u8; CONTENT], seen: &[u8], rows: &mut [u8])
     requires seen { AreSeen 16 seen.now }
     requires few { length seen.now ≤ 15 }

@@ -29,8 +29,8 @@ fn fill(bytes: &mut [u8])
     }
 }
 
-/// The digest of the random bytes with which `world` explains `hello` begins so, and `hello` explains `world` with
-/// the first ones.
+/// The digest of the random bytes with which `world` explains `hello` begins so, and `hello`
+/// explains `world` with the first ones.
 fn assert_explains(
     rt: &impl Abort,
     geometry: &Geometry,
@@ -71,7 +71,8 @@ const OF_THREE: Geometry = Geometry {
     blur: 16,
 };
 
-/// The digests were computed apart from this crate, by a program in Python, which also compared all blocks.
+/// The digests were computed apart from this crate, by a program in Python, which also compared all
+/// blocks.
 #[test]
 fn explains_another_object(rt: HostRuntime) {
     let mut random = [0; 2_976];
@@ -100,8 +101,10 @@ fn first_share(object: &[u8; OBJECT], random: &[u8; 2_976]) -> [u8; CONTENT] {
     share
 }
 
-/// By hand: the first byte of an object stands in its two contents at byte 64, as the pad 10 and as 41 + 10 = 51. For 42 the pad is
-/// 13. Its difference 03 times 1 + x, which is 1 at 0 and 0 at point 1, makes the coefficient a5 there a6.
+/// By hand: the first byte of an object stands in its two contents at byte 64, as the pad 10 and as
+/// 41 + 10 = 51. For 42 the pad is
+/// 13. Its difference 03 times 1 + x, which is 1 at 0 and 0 at point 1, makes the coefficient a5
+///     there a6.
 #[test]
 fn explains_one_byte(rt: HostRuntime) {
     let mut random = [0; 2_976];

@@ -5,7 +5,7 @@ use Rattle.pot_bytes.specs.declared.memory.NoMemory.{NoMemory}
 use Rattle.pot_options.specs.Options.{Text, given}
 use Rattle.pot_words.specs.Answers.{IsOnly}
 use Rattle.pot_words.specs.Limits.{IsWithinLimits}
-use Rattle.pot_words.specs.Lists.{ArePoints, HasPoints, Lists}
+use Rattle.pot_words.specs.Lists.{AreListedPoints, HasPoints, Lists}
 use Rattle.pot_words.specs.Tasks.{SpellCommand, SpellTask}
 use Rattle.pot_words.specs.Values.{HasNumberOr}
 use Rattle.pot_words.specs.declared.command.Command.{Command}
@@ -16,8 +16,8 @@ number_or_within : (value : Text → Option Text) (name : Text) (least most othe
 number_or_within value name least most other n low high (inl left_out) = (omega (arith, left_out.1, low), omega (arith, left_out.1, high))
 number_or_within value name least most other n low high (inr has) = (has.0, has.1)
 
-points_within : (value : Text → Option Text) (name : Text) (most : ℕ) (points : List ℕ) → HasPoints value name most points → ArePoints most points
-points_within value name most points (inl left_out) = subst (ArePoints most) (sym left_out.1) tt
+points_within : (value : Text → Option Text) (name : Text) (most : ℕ) (points : List ℕ) → HasPoints value name most points → AreListedPoints most points
+points_within value name most points (inl left_out) = subst (AreListedPoints most) (sym left_out.1) tt
 points_within value name most points (inr has) = has.2
 
 some_listed : {X : Type 0} (spell : X → Text) (text : Text) (xs : List X) → Lists spell text xs → 0 < length xs

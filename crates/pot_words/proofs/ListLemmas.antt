@@ -45,7 +45,8 @@ none_left [] it then left step = refl
 none_left (t ∷ more) it then left step = absurd (left.0 then step)
 
 module _ {X : Type 0} (spell : X → Text) (Fits : X → Type 0) (rank : X → ℕ) where
-  -- Items xs were read from the front of all parts, and `rest` are left: lists that the parts spell go on from them.
+  -- Items xs were read from the front of all parts, and `rest` are left: lists that the parts spell
+  -- go on from them.
   pub record IsUnderWay (least : ℕ) (all : List Text) (xs : List X) (next : ℕ) (rest : List Text) : Type 0 where
     pub back : (ys : List X) → AscendFrom Fits rank next ys → AscendFrom Fits rank least (xs ++ ys)
     pub on : (ys : List X) → AscendFrom Fits rank least ys → map spell ys ≡ all

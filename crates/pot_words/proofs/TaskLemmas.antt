@@ -45,7 +45,13 @@ module _ (value : Text → Option Text) where
     unhyphened_number value _ 1 512 r.archives (omega arith) has.0,
     (
       unhyphened_number value _ 1 4096 r.stripes (omega arith) has.1,
-      (unhyphened_number value _ 0 63 r.blur (omega arith) has.2, (unhyphened_yes value _ has.3.0 has.3.2, (unhyphened_yes value _ has.3.1 has.3.3, tt))),
+      (
+        unhyphened_number value _ 0 63 r.blur (omega arith) has.2,
+        (
+          unhyphened_yes value _ has.3.0 has.3.2,
+          (unhyphened_yes value _ has.3.1 has.3.3, (unhyphened_yes value _ r.bounded has.4, tt)),
+        ),
+      ),
     ),
   )
 

@@ -10,7 +10,7 @@ use Rattle.std.proofs.lemmas.Fmt.{digits_decimal}
 use Rattle.std.proofs.lemmas.Str.Parse.{numerals_by_value, tells_digits}
 use Rattle.hex.specs.Hex.{decode_sized, decode_pairs}
 use Rattle.hex.specs.declared.error.FromHexError.TheVariants.{InvalidStringLength, OddLength}
-use Rattle.pot_options.specs.Options.{Text, AreNew, AreUnhyphened, IsRead, IsUnhyphened, IsUnread, given, is_among, is_used}
+use Rattle.pot_options.specs.Options.{Text, AreNewOptions, AreUnhyphened, AreOptionsRead, IsUnhyphened, IsUnread, given, is_among, is_used}
 use Rattle.pot_words.specs.Answers.{IsOnly}
 use Rattle.pot_words.specs.Tasks.{SpellOptions}
 use Rattle.pot_words.specs.Values.{HasNumber, HasNumberOr, HasSeed, HasYes}
@@ -29,7 +29,7 @@ not_used (w ∷ before) u n none = go (bytes_eq w.0 n) none (not_used before u n
     go true e h = absurd (true≢false e)
     go false e h = h e
 
-unhyphened_from : (names : List Text) (before uses : List (Text × Text)) → AreNew names before uses
+unhyphened_from : (names : List Text) (before uses : List (Text × Text)) → AreNewOptions names before uses
     → ((n v : Text) → is_among names n ≡ true → is_used before n ≡ false → given uses n ≡ Some v → IsUnhyphened v) → AreUnhyphened uses
 unhyphened_from names before [] new tells = tt
 unhyphened_from names before (u ∷ others) new tells =
@@ -57,22 +57,22 @@ at_name value (name ∷ others) unhyphened n v among is = go (bytes_eq name n) r
     go true e a h = unhyphened.0 v (ap value ((bytes_eq-Decides name n).0 e) ∙ is)
     go false e a h = h a is
 
-unhyphened_uses : (names : List Text) (uses : List (Text × Text)) → AreNew names [] uses → AreUnhyphenedAt (given uses) names → AreUnhyphened uses
+unhyphened_uses : (names : List Text) (uses : List (Text × Text)) → AreNewOptions names [] uses → AreUnhyphenedAt (given uses) names → AreUnhyphened uses
 unhyphened_uses names uses new unhyphened = unhyphened_from names [] uses new (λ n v among none is. at_name (given uses) names unhyphened n v among is)
 
 module _ {T : Type 0} (names : List Text) (Has : T → (Text → Option Text) → Type 0) (unhyphened : (t : T) (value : Text → Option Text) → Has t value → AreUnhyphenedAt value names) where
-  same_uses : (words : List Text) (read : List (Text × Text)) → IsRead names words read → (t : T) (spelled : SpellOptions names (Has t) words) → Has t (given read)
+  same_uses : (words : List Text) (read : List (Text × Text)) → AreOptionsRead names words read → (t : T) (spelled : SpellOptions names (Has t) words) → Has t (given read)
   same_uses words read is t spelled =
       let uses : List (Text × Text) = spelled.0 in
       let same : read ≡ uses = is.1 uses spelled.1 (unhyphened_uses names uses spelled.1.1 (unhyphened t (given uses) spelled.2)) in
       subst (λ (us : List (Text × Text)). Has t (given us)) (sym same) spelled.2
 
   -- the answer on the uses that were read is the answer on the words
-  pub answered : (listed words : List Text) (read : List (Text × Text)) (r : Option T) → listed ≡ names → IsRead listed words read
+  pub answered : (listed words : List Text) (read : List (Text × Text)) (r : Option T) → listed ≡ names → AreOptionsRead listed words read
       → IsOnly (λ (t : T). Has t (given read)) r → IsOnly (λ (t : T). SpellOptions names (Has t) words) r
-  answered listed words read None same is none = λ t spelled. none t (same_uses words read (subst (λ (ns : List Text). IsRead ns words read) same is) t spelled)
+  answered listed words read None same is none = λ t spelled. none t (same_uses words read (subst (λ (ns : List Text). AreOptionsRead ns words read) same is) t spelled)
   answered listed words read (Some t) same is only =
-      let of_names = subst (λ (ns : List Text). IsRead ns words read) same is in
+      let of_names = subst (λ (ns : List Text). AreOptionsRead ns words read) same is in
       ((read, of_names.0, only.0), λ s spelled. only.1 s (same_uses words read of_names s spelled))
 
   pub unanswered : (listed words : List Text) → listed ≡ names → IsUnread listed words → IsOnly (λ (t : T). SpellOptions names (Has t) words) None

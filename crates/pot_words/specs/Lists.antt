@@ -18,13 +18,13 @@ AscendFrom Fits rank least (x ∷ xs) =
     Fits x × (least ≤ rank x) × AscendFrom Fits rank (rank x + 1) xs
 
 -- points from 1 to `most`, ascending
-abbrev pub ArePoints : ℕ → List ℕ → Type 0
-ArePoints most points = AscendFrom (λ p. p ≤ most) (λ p. p) 1 points
+abbrev pub AreListedPoints : ℕ → List ℕ → Type 0
+AreListedPoints most points = AscendFrom (λ p. p ≤ most) (λ p. p) 1 points
 
 -- the option lists the points, or is left out where there are none
 abbrev pub HasPoints : (Text → Option Text) → Text → ℕ → List ℕ → Type 0
 HasPoints value name most points = ((value name ≡ None) × (points ≡ []))
-    ⊎ ((text : Text) × (value name ≡ Some text) × ArePoints most points × Lists decimal text points)
+    ⊎ ((text : Text) × (value name ≡ Some text) × AreListedPoints most points × Lists decimal text points)
 
 -- the group and the column, with a dot (46) between them
 abbrev pub spot_text : Spot → Text

@@ -62,7 +62,7 @@ SpellGenerate words n = (1 ≤ n) × (n ≤ 1000000) × (words ≡ decimal n ∷
 
 abbrev pub recover_names : List Text
 recover_names = codes "archives" ∷ codes "stripes" ∷ codes "blur" ∷ codes "robust"
-    ∷ codes "open" ∷ []
+    ∷ codes "open" ∷ codes "bounded" ∷ []
 
 -- what two answers name: at most one of them is yes
 abbrev pub IsWay : Bool → Bool → Way → Type 0
@@ -79,6 +79,7 @@ abbrev pub HasRecover : Recover → (Text → Option Text) → Type 0
 HasRecover r value = HasNumber value (codes "archives") 1 512 r.archives
     × HasNumber value (codes "stripes") 1 4096 r.stripes
     × HasNumber value (codes "blur") 0 63 r.blur × HasWay value r.way
+    × HasYes value (codes "bounded") r.bounded
 
 -- the words spell the options of `recover`
 abbrev pub SpellRecover : List Text → Recover → Type 0

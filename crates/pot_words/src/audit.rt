@@ -18,8 +18,8 @@ use std::alloc::Global;
 /// What a coalition that sees some columns learns of the files.
 #[derive(PartialEq, Debug, Drop)]
 pub struct Audit {
-    /// The columns that are seen, ascending by group and then by column; there is at least one. Whether
-    /// a rack has them is not known here.
+    /// The columns that are seen, ascending by group and then by column; there is at least one.
+    /// Whether a rack has them is not known here.
     pub seen: ArrayVec<Spot, 288>,
     /// Whether blocks that stand in no record are counted too.
     pub loose: bool,

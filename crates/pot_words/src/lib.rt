@@ -1,11 +1,11 @@
 //! The words of the command line, and the one task that they spell.
 //!
-//! It turns words into values and does nothing else: it reads no desk, and whether a task can be done
-//! is for others to find out.
+//! It turns words into values and does nothing else: it reads no desk, and whether a task can be
+//! done is for others to find out.
 //!
 //! The first word is the command. The rest are its options, each at most once, in any order, as
-//! `--name value` or as `--name=value`. A number is decimal digits without a sign and without a leading
-//! zero, but for `0` itself. There is no help and no other flag.
+//! `--name value` or as `--name=value`. A number is decimal digits without a sign and without a
+//! leading zero, but for `0` itself. There is no help and no other flag.
 //!
 //! 1. `read_words` answers the only task that the words spell, and `None` exactly where they spell
 //!    none. Want of memory is an answer apart.

@@ -4,8 +4,8 @@ ghost use Rattle.std.specs.Prelude.{◌≡◌, ◌≢◌, ◌≤◌, ℕ, MatchO
 
 use itoa::Buffer;
 
-/// The number that the text spells, where it is at most `most`. `None` exactly where no such number is
-/// printed as this text.
+/// The number that the text spells, where it is at most `most`. `None` exactly where no such number
+/// is printed as this text.
 pub fn read_number(text: &str, most: u32) -> Option<u32>
     ensures { MatchOption result ((n : ℕ) → n ≤ most → text.now ≢ decimal n)
         (λ n. (n ≤ most) × (text.now ≡ decimal n)) }

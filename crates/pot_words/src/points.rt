@@ -4,7 +4,7 @@ ghost use Rattle.std.specs.Prelude.{◌≤◌, ℕ, decimal};
 ghost use Rattle.arrayvec.specs.ArrayVec.{ArrayVec as Items};
 ghost use Rattle.pot_options.specs.Options.{given};
 ghost use Rattle.pot_words.specs.Answers.{IsOnly};
-ghost use Rattle.pot_words.specs.Lists.{ArePoints, HasPoints, Lists};
+ghost use Rattle.pot_words.specs.Lists.{AreListedPoints, HasPoints, Lists};
 
 use crate::numbers::read_number;
 use arrayvec::ArrayVec;
@@ -25,7 +25,7 @@ pub fn points_of(options: &Options<'_>, name: &str, most: u8) -> Option<ArrayVec
 // The points that the text lists.
 fn points_in(text: &str, most: u8) -> Option<ArrayVec<u8, 16>>
     requires { most ≤ 16 }
-    ensures { IsOnly (λ (points : Items ℕ). ArePoints most points.items
+    ensures { IsOnly (λ (points : Items ℕ). AreListedPoints most points.items
         × Lists decimal text.now points.items) result }
 {
     let mut points = ArrayVec::new();

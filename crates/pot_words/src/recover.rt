@@ -33,9 +33,11 @@ pub struct Recover {
     /// The number of low bits that a pointer leaves out, at most 63.
     pub blur: u8,
     pub way: Way,
+    /// Whether the work is bounded by a lower number of chains, so that forged blocks cost seconds.
+    pub bounded: bool,
 }
 
-static NAMES: [&str; 5] = ["archives", "stripes", "blur", "robust", "open"];
+static NAMES: [&str; 6] = ["archives", "stripes", "blur", "robust", "open", "bounded"];
 
 /// The task that the words after `recover` spell.
 pub fn read_recover(alloc: Global, words: &[String]) -> Result<Option<Recover>, NoMemory>
@@ -55,11 +57,13 @@ fn recover_of(options: &Options<'_>) -> Option<Recover>
     let stripes = number_of(options, "stripes", 1, 4096)?;
     let blur = small_number_of(options, "blur", 0, 63)?;
     let way = way_of(options)?;
+    let bounded = yes_of(options, "bounded")?;
     Some(Recover {
         archives,
         stripes,
         blur,
         way,
+        bounded,
     })
 }
 

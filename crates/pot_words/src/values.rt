@@ -44,7 +44,8 @@ pub fn small_number_or(
     small_number_of(options, name, least, most)
 }
 
-/// The seed that the option has, `Some(None)` where it is left out. `None` where its value is no seed.
+/// The seed that the option has, `Some(None)` where it is left out. `None` where its value is no
+/// seed.
 pub fn seed_of(options: &Options<'_>, name: &str) -> Option<Option<[u8; 32]>>
     ensures { IsOnly (HasSeed (given options.now) name.now) result }
 {

@@ -7,7 +7,7 @@ use lib.ListN.{get_elem?}
 use Rattle.crossbeam_queue.specs.Fifo.{Pushes, Pops, Forks, Merges, Learns}
 use Rattle.crossbeam_queue.proofs.Lists.{at_set, at_snoc}
 use Rattle.pot_work.specs.declared.claims.Hand.{Hand}
-use Rattle.pot_work.specs.Claims.{hand, weigh, one_at, times, stands, all_parts, Fits, Claimed, TookOne, TookAll}
+use Rattle.pot_work.specs.Claims.{hand, weigh, one_at, times, stands, all_parts, FitsJobs, Claimed, TookOne, TookAll}
 use Rattle.pot_work.proofs.Weights.{weigh_append, weigh_set, least, least_two, only, get_front, get_last, get_either}
 
 pub one_here : (p q : ℕ) → q ≡ p → one_at p q ≡ 1
@@ -18,13 +18,13 @@ one_else p q n = ap (λ b. if b then 1 else 0) (ne_eqb q p n)
 
 module _ {J : Type 0} where
   abbrev Each : List J → List (Hand J) → Type 0
-  Each jobs views = (by : ℕ) (v : Hand J) → get_elem? views by ≡ some v → Fits jobs v
+  Each jobs views = (by : ℕ) (v : Hand J) → get_elem? views by ≡ some v → FitsJobs jobs v
 
-  fits_set : (jobs : List J) (views : List (Hand J)) (by : ℕ) (w : Hand J) → Fits jobs w → ((j : ℕ) (u : Hand J) → j ≢ by → get_elem? views j ≡ some u → Fits jobs u) → Each jobs (set views by w)
-  fits_set jobs views by w mine others j u at = ⊎_elim (λ (x : (j ≡ by) × (w ≡ u)). subst (Fits jobs) x.1 mine) (λ (x : (j ≢ by) × (get_elem? views j ≡ some u)). others j u x.0 x.1) (at_set views by j w u at)
+  fits_set : (jobs : List J) (views : List (Hand J)) (by : ℕ) (w : Hand J) → FitsJobs jobs w → ((j : ℕ) (u : Hand J) → j ≢ by → get_elem? views j ≡ some u → FitsJobs jobs u) → Each jobs (set views by w)
+  fits_set jobs views by w mine others j u at = ⊎_elim (λ (x : (j ≡ by) × (w ≡ u)). subst (FitsJobs jobs) x.1 mine) (λ (x : (j ≢ by) × (get_elem? views j ≡ some u)). others j u x.0 x.1) (at_set views by j w u at)
 
-  first_fits : (by : ℕ) (v : Hand J) → get_elem? (hand all_parts [] [] ∷ []) by ≡ some v → Fits [] v
-  first_fits zero v at = subst (Fits []) (some-injective (hand all_parts [] []) v at) (record { idle = λ no. refl; held = λ _. refl })
+  first_fits : (by : ℕ) (v : Hand J) → get_elem? (hand all_parts [] [] ∷ []) by ≡ some v → FitsJobs [] v
+  first_fits zero v at = subst (FitsJobs []) (some-injective (hand all_parts [] []) v at) (record { idle = λ no. refl; held = λ _. refl })
   first_fits (suc by) v at = absurd (some-ne-none v (sym at))
 
   pub begins : Claimed {J = J} [] (hand all_parts [] [] ∷ [])
@@ -48,7 +48,7 @@ module _ {J : Type 0} where
       same_jobs : v.jobs ≡ h.jobs
       same_jobs = (h.each by v at).held (omega (arith, all))
 
-      others_idle : (j : ℕ) (u : Hand J) → j ≢ by → get_elem? views j ≡ some u → Fits (v.jobs ++ job ∷ []) u
+      others_idle : (j : ℕ) (u : Hand J) → j ≢ by → get_elem? views j ≡ some u → FitsJobs (v.jobs ++ job ∷ []) u
       others_idle j u other at' =
           let two = least_two (λ x. x.parts) views by j v u at at' other in
           let no : u.parts ≡ 0 = omega (arith, two, h.parts, all) in
@@ -178,7 +178,7 @@ module _ {J : Type 0} where
         parts = let a = weigh_set (λ u. u.parts) views by v left at in let b = weigh_append (λ u. u.parts) (set views by left) (right ∷ []) in omega (arith, a, b, h.parts, more);
         each = λ j u at'. ⊎_elim (λ (old : get_elem? (set views by left) j ≡ some u).
             fits_set h.jobs views by left (record { idle = λ no. absurd (omega (arith, no, more)); held = λ _. knows }) (λ i t other at''. h.each i t at'') j u old)
-            (λ (new : right ≡ u). subst (Fits h.jobs) new (record { idle = λ no. refl; held = λ _. knows })) (at_snoc (set views by left) right u j at');
+            (λ (new : right ≡ u). subst (FitsJobs h.jobs) new (record { idle = λ no. refl; held = λ _. knows })) (at_snoc (set views by left) right u j at');
         once = λ p lt. let a = weigh_set (λ u. times p u.taken) views by v left at in let b = weigh_append (λ u. times p u.taken) (set views by left) (right ∷ []) in omega (arith, a, b, h.once p lt);
         none = λ p le. let a = weigh_set (λ u. times p u.taken) views by v left at in let b = weigh_append (λ u. times p u.taken) (set views by left) (right ∷ []) in omega (arith, a, b, h.none p le);
         count = let a = weigh_set (λ u. length u.taken) views by v left at in let b = weigh_append (λ u. length u.taken) (set views by left) (right ∷ []) in omega (arith, a, b, h.count);

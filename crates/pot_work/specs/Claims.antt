@@ -26,7 +26,7 @@ abbrev pub all_parts : ℕ
 all_parts = 1024
 
 -- whoever has a part knows the jobs, and who has none took nothing
-pub record Fits {J : Type 0} (jobs : List J) (v : Hand J) : Type 0 where
+pub record FitsJobs {J : Type 0} (jobs : List J) (v : Hand J) : Type 0 where
   pub idle : v.parts ≡ 0 → v.taken ≡ []
   pub held : 0 < v.parts → v.jobs ≡ jobs
 
@@ -38,7 +38,7 @@ stands p items views = weigh (λ x. one_at p x.0) items + weigh (λ v. times p v
 pub record Claimed {J : Type 0} (items : List (ℕ × J)) (views : List (Hand J)) : Type 0 where
   pub jobs : List J
   pub parts : weigh (λ v. v.parts) views ≡ all_parts
-  pub each : (by : ℕ) (v : Hand J) → get_elem? views by ≡ some v → Fits jobs v
+  pub each : (by : ℕ) (v : Hand J) → get_elem? views by ≡ some v → FitsJobs jobs v
   pub once : (p : ℕ) → p < length jobs → stands p items views ≡ 1
   pub none : (p : ℕ) → length jobs ≤ p → stands p items views ≡ 0
   pub count : length items + weigh (λ v. length v.taken) views ≡ length jobs

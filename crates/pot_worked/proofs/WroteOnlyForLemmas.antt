@@ -7,7 +7,7 @@ use Rattle.std.proofs.lemmas.Option.{slice_get_within}
 use Rattle.std.proofs.lemmas.Bool.{false_from_ne_true}
 use Rattle.pot_turn.specs.declared.view.View.{View}
 use Rattle.pot_turn.specs.declared.view.Stretch.{Stretch}
-use Rattle.pot_turn.specs.Stretches.{stretch, times, Ascends}
+use Rattle.pot_turn.specs.Stretches.{stretch, times, StretchesAscend}
 use Rattle.pot_turn.specs.Views.{took_view, left_view}
 use Rattle.pot_turn.proofs.LogLemmas.{get_front, get_back, filter_none, starts_length}
 use Rattle.pot_turn.proofs.StretchLemmas.{times-append, between_in, between_from, some_of, ascends_both, ascends_lies, lies_within, times_ahead, times_behind}
@@ -68,7 +68,7 @@ module _ {E O : Type 0} where
         joined = refl;
         seen = left_seen v others entries ∙ ap (λ w. v.seen ++ w) (sym (left_added v others entries));
         turns = ap (λ w. v.turns ++ w) (sym (left_mine v others entries));
-        ascends = subst (λ ss. Ascends (length v.seen) ss (length (transition ++ entries))) (sym (left_mine v others entries)) (omega (arith, one), omega (arith, two), omega arith);
+        ascends = subst (λ ss. StretchesAscend (length v.seen) ss (length (transition ++ entries))) (sym (left_mine v others entries)) (omega (arith, one), omega (arith, two), omega arith);
         own = λ i e is some. left_own is_of v others entries all i e is (subst (λ ss. 0 < times i ss) (left_mine v others entries) some);
       }
 
@@ -116,7 +116,7 @@ module _ {E O : Type 0} (is_of : E → Bool) (u v w : View E O) (first : WroteOn
     joined = then.joined ∙ first.joined;
     seen = both_seen ∙ ap (λ s. u.seen ++ s) (sym both_added);
     turns = both_turns ∙ ap (λ s. u.turns ++ s) (sym both_mine);
-    ascends = subst (λ ss. Ascends (length u.seen) ss (length w.seen)) (sym both_mine)
+    ascends = subst (λ ss. StretchesAscend (length u.seen) ss (length w.seen)) (sym both_mine)
         (ascends_both (length u.seen) (mine u v) (mine v w) (length v.seen) (length v.seen) (length w.seen) first.ascends (omega arith) then.ascends);
     own = both_own;
   }
@@ -211,7 +211,7 @@ module _ {E O : Type 0} (is_of : E → Bool) (v w : View E O) (more : KnowsMore 
     joined = more.joined;
     seen = more_seen;
     turns = more.turns ∙ (sym (append-nil v.turns) ∙ ap (λ s. v.turns ++ s) (sym none_mine));
-    ascends = subst (λ ss. Ascends (length v.seen) ss (length w.seen)) (sym none_mine) (starts_length w.seen v.seen more.seen);
+    ascends = subst (λ ss. StretchesAscend (length v.seen) ss (length w.seen)) (sym none_mine) (starts_length w.seen v.seen more.seen);
     own = λ i e is some. absurd (in_none i some);
   }
 

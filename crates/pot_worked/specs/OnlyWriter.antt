@@ -54,11 +54,11 @@ BatchExtends E O =
 
 -- The last pass of a turn began without stretches, at the opening log or later, and every position
 -- since the opening stands in just one of its stretches, as a close tells.
-pub record IsWhole {E O : Type 0} (first last : View E O) : Type 0 where
+pub record IsTurnWhole {E O : Type 0} (first last : View E O) : Type 0 where
   pub opened : length last.opened ≤ length first.seen
   pub fresh : stretches_of first ≡ []
   pub once : IsOnceEach last.opened last.seen (stretches_of last)
 
 -- at the close such a pass was sole
 abbrev pub OnlyWriterAtClose : (E O : Type 0) → Type 0
-OnlyWriterAtClose E O = (u x : View E O) → Extends u x → IsWhole u x → OnlyWriter u x
+OnlyWriterAtClose E O = (u x : View E O) → Extends u x → IsTurnWhole u x → OnlyWriter u x

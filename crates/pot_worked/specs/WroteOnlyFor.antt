@@ -4,7 +4,7 @@ use Rattle.std.specs.Prelude.{slice_get, Some}
 use Rattle.pot_turn.specs.declared.view.View.{View}
 use Rattle.pot_turn.specs.declared.view.Stretch.{Stretch}
 use Rattle.pot_turn.specs.Logs.{StartsWith}
-use Rattle.pot_turn.specs.Stretches.{times, Ascends}
+use Rattle.pot_turn.specs.Stretches.{times, StretchesAscend}
 use Rattle.pot_turn.specs.Views.{took_view, left_view}
 
 module _ {E O : Type 0} where
@@ -30,7 +30,7 @@ module _ {E O : Type 0} where
     pub joined : w.joined ≡ v.joined
     pub seen : w.seen ≡ v.seen ++ added v w
     pub turns : w.turns ≡ v.turns ++ mine v w
-    pub ascends : Ascends (length v.seen) (mine v w) (length w.seen)
+    pub ascends : StretchesAscend (length v.seen) (mine v w) (length w.seen)
     pub own : (i : ℕ) (e : E) → slice_get w.seen i ≡ Some e → 0 < times i (mine v w)
         → is_of e ≡ true
 

@@ -14,12 +14,12 @@ use Rattle.pot_machine.specs.Making.{empty_table}
 use Rattle.pot_machine.specs.Table.{Table, archives_in, serving_at, width, column_at}
 use Rattle.pot_machine.specs.Rules.{IsTable, IsStanding}
 use Rattle.pot_steps.specs.declared.flight.Flight.{Flight}
-use Rattle.pot_world.specs.Alike.{Alike, blank_table}
+use Rattle.pot_world.specs.Alike.{Alike}
 use Rattle.pot_world.specs.Audit.{AllSame, SeesSame, Sight, Whole, One, Blind}
-use Rattle.pot_world.specs.Coalition.{Agrees, Hears, IsServed, Served}
+use Rattle.pot_world.specs.Coalition.{IsServed, Served}
 use Rattle.pot_world.specs.Group.{WorldGroup}
 use Rattle.pot_world.specs.Kept.{IsFlight}
-use Rattle.pot_world.specs.Later.{of_table, Known, Both, IsLow, RunsSeenOn, reopened, reopened_site, ReopenedBoth, FirstReopened, Sessions, SessionsFit, OtherSessions, SessionsSeenSame}
+use Rattle.pot_world.specs.Later.{of_table, KnownOfGroup, Both, SeesNoParity, RunsSeenOn, reopened, reopened_site, ReopenedBoth, FirstReopened, Sessions, SessionsFit, OtherSessions, SessionsSeenSame}
 use Rattle.pot_world.specs.Reached.{EachGroup, IsGood, Move, Site, first_group, first_groups, first_site, is_oddly}
 use Rattle.pot_world.proofs.Auditing.{first_both, runs_both}
 
@@ -143,7 +143,7 @@ served_anew used g sv = record {
             either false true ex ey e = (1, omega arith, is m.to n ey)
             either false false ex ey e = absurd (cc)
 
-known_anew : (rack : Rack) (used : ℕ → Bool) (g : WorldGroup) → Known rack used g → Known rack used (reopened g)
+known_anew : (rack : Rack) (used : ℕ → Bool) (g : WorldGroup) → KnownOfGroup rack used g → KnownOfGroup rack used (reopened g)
 known_anew rack used g x = record { good = good_anew used g x.good; served = served_anew used g x.served; sizes = x.sizes }
 
 -- WHAT IS SEEN
@@ -167,7 +167,7 @@ same_listed true false none a b e same = absurd (cc)
 same_listed false true none a b e same = absurd (cc)
 same_listed false false none a b e same = refl
 
-same_anew : (rack : Rack) (exchanges : Bool) (used : ℕ → Bool) (sight : Sight) (g h : WorldGroup) → ((k : ℕ) → sight ≡ One k → k < rack.columns) → Known rack used g → SeesSame exchanges sight g h → SeesSame exchanges sight (reopened g) (reopened h)
+same_anew : (rack : Rack) (exchanges : Bool) (used : ℕ → Bool) (sight : Sight) (g h : WorldGroup) → ((k : ℕ) → sight ≡ One k → k < rack.columns) → KnownOfGroup rack used g → SeesSame exchanges sight g h → SeesSame exchanges sight (reopened g) (reopened h)
 same_anew rack exchanges used Whole g h low x e = ap reopened e
 same_anew rack exchanges used (One k) g h low x s = (
   record {
@@ -186,7 +186,7 @@ same_anew rack exchanges used (One k) g h low x s = (
     lk = let a = low k refl in let b = x.sizes.1 in omega (arith, a, b)
 same_anew rack exchanges used Blind g h low x a = alike_anew g h a
 
-all_anew : (rack : Rack) (exchanges : Bool) (used : ℕ → Bool) (sights : ℕ → Sight) (gs hs : List WorldGroup) → IsLow rack sights → EachGroup (Known rack used) gs → AllSame exchanges sights gs hs → AllSame exchanges sights (map reopened gs) (map reopened hs)
+all_anew : (rack : Rack) (exchanges : Bool) (used : ℕ → Bool) (sights : ℕ → Sight) (gs hs : List WorldGroup) → SeesNoParity rack sights → EachGroup (KnownOfGroup rack used) gs → AllSame exchanges sights gs hs → AllSame exchanges sights (map reopened gs) (map reopened hs)
 unfolding AllSame EachGroup
 all_anew rack exchanges used sights [] [] low x s = tt
 all_anew rack exchanges used sights [] (h ∷ hs) low x s = absurd s
@@ -202,7 +202,7 @@ each_anew P Q f (g ∷ gs) h = (f g h.0, each_anew P Q f gs h.1)
 pub reopened_both : ReopenedBoth
 reopened_both rack exchanges sights x y low b = record {
   used = b.used;
-  known = each_anew (Known rack x.used) (Known rack x.used) (known_anew rack x.used) x.groups b.known;
+  known = each_anew (KnownOfGroup rack x.used) (KnownOfGroup rack x.used) (known_anew rack x.used) x.groups b.known;
   good = each_anew (IsGood y.used) (IsGood y.used) (good_anew y.used) y.groups b.good;
   same = all_anew rack exchanges x.used sights x.groups y.groups low b.known b.same;
 }
@@ -212,7 +212,7 @@ reopened_both rack exchanges sights x y low b = record {
 pub runs_seen_on : RunsSeenOn
 runs_seen_on rack exchanges sights bytes moves x y z low blocks b r fits = runs_both rack exchanges sights bytes moves x y z blocks low b r fits
 
-sessions_on : (rack : Rack) (exchanges : Bool) (sights : ℕ → Sight) (sessions : List (List Move)) (bytes : ℕ → ℕ → List ℕ) (x y z : Site) → IsLow rack sights → ((n m : ℕ) → IsBlock (bytes n m)) → Both rack exchanges sights x y
+sessions_on : (rack : Rack) (exchanges : Bool) (sights : ℕ → Sight) (sessions : List (List Move)) (bytes : ℕ → ℕ → List ℕ) (x y z : Site) → SeesNoParity rack sights → ((n m : ℕ) → IsBlock (bytes n m)) → Both rack exchanges sights x y
     → (run : Sessions x sessions z) → SessionsFit sights bytes x sessions z run → (w : Site) × OtherSessions exchanges sights bytes x y sessions z run w × (w.used ≡ z.used) × AllSame exchanges sights z.groups w.groups
 sessions_on rack exchanges sights [] bytes x y z low blocks b run fits =
     (y, refl, b.used ∙ ap (λ (s : Site). s.used) (sym run), subst (λ (s : Site). AllSame exchanges sights s.groups y.groups) (sym run) b.same)

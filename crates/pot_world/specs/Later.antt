@@ -12,7 +12,7 @@ use Rattle.pot_world.specs.Coalition.{IsServed}
 use Rattle.pot_world.specs.Reached.{EachGroup, IsGood, Move, Reaches, Site, first_site}
 
 -- what is known of each group of a world that is reached
-pub record Known (rack : Rack) (used : ℕ → Bool) (g : WorldGroup) : Type 0 where
+pub record KnownOfGroup (rack : Rack) (used : ℕ → Bool) (g : WorldGroup) : Type 0 where
   pub good : IsGood used g
   pub served : IsServed used g
   pub sizes : (g.state.table.stripes ≡ rack.stripes)
@@ -22,13 +22,13 @@ pub record Known (rack : Rack) (used : ℕ → Bool) (g : WorldGroup) : Type 0 w
 -- seen is the same in both
 pub record Both (rack : Rack) (exchanges : Bool) (sights : ℕ → Sight) (x y : Site) : Type 0 where
   pub used : y.used ≡ x.used
-  pub known : EachGroup (Known rack x.used) x.groups
+  pub known : EachGroup (KnownOfGroup rack x.used) x.groups
   pub good : EachGroup (IsGood y.used) y.groups
   pub same : AllSame exchanges sights x.groups y.groups
 
 -- no single column is seen but a data column
-abbrev pub IsLow : Rack → (ℕ → Sight) → Type 0
-IsLow rack sights = (n k : ℕ) → sights n ≡ One k → k < rack.columns
+abbrev pub SeesNoParity : Rack → (ℕ → Sight) → Type 0
+SeesNoParity rack sights = (n k : ℕ) → sights n ≡ One k → k < rack.columns
 
 abbrev pub FirstBoth : Type 0
 FirstBoth =
@@ -39,7 +39,7 @@ FirstBoth =
 abbrev pub RunsSeenOn : Type 0
 RunsSeenOn =
     (rack : Rack) (exchanges : Bool) (sights : ℕ → Sight) (bytes : ℕ → List ℕ) (moves : List Move)
-    (x y z : Site) → IsLow rack sights → ((n : ℕ) → IsBlock (bytes n))
+    (x y z : Site) → SeesNoParity rack sights → ((n : ℕ) → IsBlock (bytes n))
     → Both rack exchanges sights x y → Reaches x moves z → AllFits sights bytes moves x
     → (w : Site) × Reaches y (other_moves exchanges sights bytes moves x y) w
     × Both rack exchanges sights z w
@@ -75,7 +75,7 @@ FirstReopened = (rack : Rack) → reopened_site (first_site rack) ≡ first_site
 
 abbrev pub ReopenedBoth : Type 0
 ReopenedBoth =
-    (rack : Rack) (exchanges : Bool) (sights : ℕ → Sight) (x y : Site) → IsLow rack sights
+    (rack : Rack) (exchanges : Bool) (sights : ℕ → Sight) (x y : Site) → SeesNoParity rack sights
     → Both rack exchanges sights x y
     → Both rack exchanges sights (reopened_site x) (reopened_site y)
 
@@ -108,7 +108,7 @@ OtherSessions exchanges sights bytes x y (moves ∷ more) z run w =
 abbrev pub SessionsSeenSame : Type 0
 SessionsSeenSame =
     (rack : Rack) (exchanges : Bool) (sights : ℕ → Sight) (bytes : ℕ → ℕ → List ℕ)
-    (sessions : List (List Move)) (z : Site) → IsRack rack → IsLow rack sights
+    (sessions : List (List Move)) (z : Site) → IsRack rack → SeesNoParity rack sights
     → ((n m : ℕ) → IsBlock (bytes n m)) → (run : Sessions (first_site rack) sessions z)
     → SessionsFit sights bytes (first_site rack) sessions z run
     → (w : Site)

@@ -1,8 +1,8 @@
 //! Folders as snapshots: what stands in a folder, which packs its files go into, the names of lists
 //! and packs in a vault, what differs between two lists, and how a snapshot is put back.
 //!
-//! It knows no vault and holds no session. What it reads, writes and tells nothing is claimed of but
-//! safety.
+//! It knows no vault and holds no session. What it reads, writes and tells nothing is claimed of
+//! but safety.
 #![tactic(auto)]
 
 mod comparing;

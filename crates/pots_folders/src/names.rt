@@ -43,8 +43,8 @@ impl Snapshot {
         part_of(&self.list, start, start.saturating_add(STAMP))
     }
 
-    /// Whether it was stored at this date or before. A date may leave its end out: then it means all
-    /// of that day, hour or minute.
+    /// Whether it was stored at this date or before. A date may leave its end out: then it means
+    /// all of that day, hour or minute.
     pub fn is_at(&self, date: &str) -> bool {
         let stamp = self.stamp().as_bytes();
         let count = date.len().min(stamp.len());

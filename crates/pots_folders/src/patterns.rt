@@ -16,8 +16,8 @@ pub fn fits(alloc: Global, pattern: &[u8], path: &[u8]) -> Result<bool, AllocErr
     Ok(fronts.last() == Some(&true))
 }
 
-/// Whether a pattern finds a path: one with a slash where it fits the whole path, any other where it
-/// fits the last part of it.
+/// Whether a pattern finds a path: one with a slash where it fits the whole path, any other where
+/// it fits the last part of it.
 pub fn fits_path(alloc: Global, pattern: &[u8], path: &[u8]) -> Result<bool, AllocError> {
     if pattern.contains(&b'/') {
         return fits(alloc, pattern, path);

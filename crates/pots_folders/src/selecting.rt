@@ -4,8 +4,8 @@ use pot_tree::{Content, Entry};
 use std::alloc::{AllocError, Global};
 use std::collections::BTreeSet;
 
-/// Whether an entry is wanted where all below one path is: it is that path, below it, or a folder on
-/// the way to it.
+/// Whether an entry is wanted where all below one path is: it is that path, below it, or a folder
+/// on the way to it.
 pub fn is_wanted(entry: &Entry, below: Option<&str>) -> bool {
     let Some(below) = below else {
         return true;
@@ -21,8 +21,8 @@ fn is_below(path: &[u8], folder: &[u8]) -> bool {
     }
 }
 
-/// Whether each path of a list lies in the folder itself or in a folder that stands before it in the
-/// list. In any other list a path could lead through a link out of the folder.
+/// Whether each path of a list lies in the folder itself or in a folder that stands before it in
+/// the list. In any other list a path could lead through a link out of the folder.
 pub fn are_in_folders(alloc: Global, entries: &[Entry]) -> Result<bool, AllocError> {
     let mut folders: BTreeSet<&[u8]> = BTreeSet::new(alloc);
     for entry in entries {

@@ -1,8 +1,8 @@
 //! When the vault was last checked and drilled, and when a copy of its desk was last made, in the
 //! file `last-check` of its folder.
 //!
-//! A line of it is a word, `check`, `drill` or `copy`, the seconds since 1970, and the day, which is
-//! there to be read by people. Other lines are passed over, and left out where it is written.
+//! A line of it is a word, `check`, `drill` or `copy`, the seconds since 1970, and the day, which
+//! is there to be read by people. Other lines are passed over, and left out where it is written.
 
 use crate::clock::now;
 use pot_looks::{date_text, days_between};

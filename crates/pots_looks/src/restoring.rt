@@ -62,8 +62,8 @@ fn image_of(visit: &Visit, path: &str, bytes: &[u8]) -> Result<Image, Stop> {
     }
 }
 
-// The desk that is here before. One that is sound ends the command, unless it may be replaced: then it is
-// kept.
+// The desk that is here before. One that is sound ends the command, unless it may be replaced: then
+// it is kept.
 fn looked_at(visit: &mut Visit, may_replace: bool, session: u32) -> Result<Before, Stop> {
     let bytes = match visit.desk.read() {
         Ok(Some(bytes)) => bytes,

@@ -12,7 +12,7 @@ use Rattle.std.proofs.lemmas.List.{append_assoc, append-nil, take-append-drop}
 use Rattle.std.proofs.lemmas.List.Concat.{flat_map-cons}
 use Rattle.std.proofs.lemmas.List.Elements.{All-head, All-tail, All-append}
 use Rattle.pot_bytes.specs.Names.{is_name_byte}
-use Rattle.pots_places.specs.Places.{IsPlaceName, ArePlaces, BeginsWith, BeginsWithNone, Cuts, NamesNone, NamesPlaces, head, line, tail}
+use Rattle.pots_places.specs.Places.{IsPlaceName, ArePlaces, BeginsWith, BeginsWithNone, CutsLine, NamesNone, NamesPlaces, head, line, tail}
 
 -- the byte stands nowhere in the list
 abbrev pub Without : ℕ → List ℕ → Type 0
@@ -86,16 +86,16 @@ with_front text begin rest same is =
     ∙ ap (λ (l : List ℕ). begin ++ l) (sym is)
 
 -- the line that was cut off tells the name
-pub one_name : (text fr behind word name after : List ℕ) → Cuts text fr behind → fr ≡ codes "place " ++ word → BeginsWith text name after → name ≡ word
+pub one_name : (text fr behind word name after : List ℕ) → CutsLine text fr behind → fr ≡ codes "place " ++ word → BeginsWith text name after → name ≡ word
 one_name text fr behind word name after cut is b =
     let parts = one_cut 10 (front name) fr after behind (front-without name b.is) cut.first (sym (line_ends name after) ∙ sym b.whole ∙ cut.whole) in
     same_names name word (parts.0 ∙ is)
 
-pub no_name : (text fr behind word : List ℕ) → Cuts text fr behind → fr ≡ codes "place " ++ word → (IsPlaceName word → ⊥) → BeginsWithNone text
+pub no_name : (text fr behind word : List ℕ) → CutsLine text fr behind → fr ≡ codes "place " ++ word → (IsPlaceName word → ⊥) → BeginsWithNone text
 no_name text fr behind word cut is other name after b =
     other (subst IsPlaceName (one_name text fr behind word name after cut is b) b.is)
 
-pub this_name : (text fr behind word name : List ℕ) → Cuts text fr behind → fr ≡ codes "place " ++ word → name ≡ word → IsPlaceName name → BeginsWith text name behind
+pub this_name : (text fr behind word name : List ℕ) → CutsLine text fr behind → fr ≡ codes "place " ++ word → name ≡ word → IsPlaceName name → BeginsWith text name behind
 this_name text fr behind word name cut is same named = record {
   is = named;
   whole = cut.whole ∙ ap (λ (l : List ℕ). l ++ 10 ∷ behind) (is ∙ ap (λ (w : List ℕ). codes "place " ++ w) (sym same)) ∙ sym (line_ends name behind);

@@ -68,7 +68,7 @@ abbrev pub NamesNone : List ℕ → Type 0
 NamesNone text = (names : List (List ℕ)) → NamesPlaces text names → ⊥
 
 -- the text is cut at its first LF
-pub record Cuts (text front behind : List ℕ) : Type 0 where
+pub record CutsLine (text front behind : List ℕ) : Type 0 where
   pub whole : text ≡ front ++ 10 ∷ behind
   pub first : All (λ b. b ≢ 10) front
 

@@ -3,8 +3,8 @@ use Rattle.std.specs.Prelude.{◌≡◌, ◌≢◌, ◌+◌, ◌*◌, ◌/◌, �
 use Rattle.std.specs.Prelude.{Option, MatchOption}
 
 -- a rack has this number
-abbrev pub IsNumber : ℕ → Type 0
-IsNumber n = (1 ≤ n) × (n ≤ 999)
+abbrev pub IsRackNumber : ℕ → Type 0
+IsRackNumber n = (1 ≤ n) × (n ≤ 999)
 
 -- the digit of this place in decimal
 abbrev pub digit : ℕ → ℕ
@@ -44,22 +44,22 @@ vault_text n = (head ++ lines n) ++ tail
 abbrev pub TellsCount : List ℕ → Option ℕ → Type 0
 TellsCount text result =
     MatchOption result
-    ((n : ℕ) → IsNumber n → text ≢ vault_text n)
-    (λ n. IsNumber n × (text ≡ vault_text n))
+    ((n : ℕ) → IsRackNumber n → text ≢ vault_text n)
+    (λ n. IsRackNumber n × (text ≡ vault_text n))
 
 -- the number of racks whose text has this length; None exactly where no vault's has
 abbrev pub HasLength : ℕ → Option ℕ → Type 0
 HasLength length result =
     MatchOption result
-    ((n : ℕ) → IsNumber n → length ≢ 22 + 9 * n)
-    (λ n. IsNumber n × (length ≡ 22 + 9 * n))
+    ((n : ℕ) → IsRackNumber n → length ≢ 22 + 9 * n)
+    (λ n. IsRackNumber n × (length ≡ 22 + 9 * n))
 
 -- the number of which these are the digits; None exactly where they are those of no rack
 abbrev pub TellsRack : List ℕ → Option ℕ → Type 0
 TellsRack text result =
     MatchOption result
-    ((n : ℕ) → IsNumber n → text ≢ three_digits n)
-    (λ n. IsNumber n × (text ≡ three_digits n))
+    ((n : ℕ) → IsRackNumber n → text ≢ three_digits n)
+    (λ n. IsRackNumber n × (text ≡ three_digits n))
 
 -- the number below 1000 of which these are the digits; None exactly where they are those of none
 abbrev pub HasDigits : ℕ → ℕ → ℕ → Option ℕ → Type 0

@@ -1,6 +1,6 @@
 //! Which rack a file goes to.
 ghost use Rattle.std.specs.Prelude.{◌≡◌, MatchOption};
-ghost use Rattle.pots_racks.specs.Choices.{IsChosen, IsFirst, IsNowhere};
+ghost use Rattle.pots_racks.specs.Choices.{IsChosen, IsFirstMarked, IsNoneMarked};
 
 /// Where a file goes, by the place of the rack in the list.
 #[derive(Clone, Copy, Debug, PartialEq, Eq)]
@@ -29,7 +29,7 @@ pub fn choose(stands: &[bool], has_room: &[bool]) -> Choice
 
 // The first place that is marked.
 fn first(marks: &[bool]) -> Option<usize>
-    ensures { MatchOption result (IsNowhere marks.now) (IsFirst marks.now) }
+    ensures { MatchOption result (IsNoneMarked marks.now) (IsFirstMarked marks.now) }
 {
     for at in 0..marks.len() {
         if marks[at] {

@@ -55,7 +55,7 @@ pub fn reason(status: u8) -> &'static str {
         2 =>
             "these numbers are beyond the limits: see pots help recover, and the limits in potshards(1)",
         11 =>
-            "there are too many ways to read these blocks, as where an archive was tampered with: leave out one archive after another, as with --without 0; potshards-recovery(7) tells more",
+            "there are too many ways to read these blocks, as where an archive was tampered with: leave out one archive after another, as with --without 0, or give --unbounded and time; potshards-recovery(7) tells more",
         _ => "memory ran out for what the blocks give: give it more",
     }
 }

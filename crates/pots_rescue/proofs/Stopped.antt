@@ -10,19 +10,19 @@ use Rattle.pot_steps.specs.Stripe.{Sound, Stripe}
 use Rattle.pot_machine.specs.declared.slot.SlotState.TheVariants.{Live}
 use Rattle.pots_rescue.specs.declared.bringing.Brought.{Brought}
 use Rattle.pots_rescue.specs.declared.bringing.Brought.TheVariants.{There, Copied, Nowhere}
-use Rattle.pots_rescue.specs.Bringing.{HasDigest, IsBrought}
-use Rattle.pots_rescue.specs.Laws.{Holds, KeptIsPutBack}
-use Rattle.pots_rescue.specs.Stopped.{IsAtCursor, IsKept, IsPutBack, IsStopped, StoppedBears}
+use Rattle.pots_rescue.specs.Bringing.{HoldsDigest, IsBrought}
+use Rattle.pots_rescue.specs.Laws.{SlotContent, KeptIsPutBack}
+use Rattle.pots_rescue.specs.Stopped.{IsAtCursor, IsParityKept, IsPutBack, IsSessionStopped, StoppedBears}
 
 -- what was kept has the digest
-kept_has : (d : Digest) (kept : Brought) (parity spare then : Holds) → HasDigest d parity → IsBrought d kept parity spare then → HasDigest d then
-kept_has d There parity spare then has is = subst (HasDigest d) (sym is.1) is.0
-kept_has d Copied parity spare then has is = subst (HasDigest d) (sym is.2) has
+kept_has : (d : Digest) (kept : Brought) (parity spare then : SlotContent) → HoldsDigest d parity → IsBrought d kept parity spare then → HoldsDigest d then
+kept_has d There parity spare then has is = subst (HoldsDigest d) (sym is.1) is.0
+kept_has d Copied parity spare then has is = subst (HoldsDigest d) (sym is.2) has
 kept_has d Nowhere parity spare then has is = absurd (is.1 has)
 
 kept_put_back : KeptIsPutBack
-kept_put_back d kept There parity spare kept_then written then has k p = subst (HasDigest d) (sym p.1) p.0
-kept_put_back d kept Copied parity spare kept_then written then has k p = subst (HasDigest d) (sym p.2) p.1
+kept_put_back d kept There parity spare kept_then written then has k p = subst (HoldsDigest d) (sym p.1) p.0
+kept_put_back d kept Copied parity spare kept_then written then has k p = subst (HoldsDigest d) (sym p.2) p.1
 kept_put_back d kept Nowhere parity spare kept_then written then has k p = absurd (p.1 (kept_has d kept parity spare kept_then has k))
 
 abbrev digest_with : List ℕ → Digest
@@ -30,22 +30,22 @@ digest_with bytes = record { bytes = bytes }
 
 -- a slot that is sound holds a block of its digest, and the other way round
 module _ (x : Stripe) (c : ℕ) where
-  has_digest : (sound : Sound x c) → HasDigest sound.1.digest (x.held c)
+  has_digest : (sound : Sound x c) → HoldsDigest sound.1.digest (x.held c)
   unfolding digest_of
-  has_digest sound = subst (HasDigest sound.1.digest) (sym sound.1.held) (ap (λ (d : Digest). d.bytes) sound.1.right)
+  has_digest sound = subst (HoldsDigest sound.1.digest) (sym sound.1.held) (ap (λ (d : Digest). d.bytes) sound.1.right)
 
-  is_sound : (d : Digest) → x.slots c ≡ Live d → HasDigest d (x.held c) → Sound x c
+  is_sound : (d : Digest) → x.slots c ≡ Live d → HoldsDigest d (x.held c) → Sound x c
   unfolding digest_of
   is_sound d live has = by (x.held c) refl has
     where
-      by : (o : Option _) → x.held c ≡ o → HasDigest d o → Sound x c
+      by : (o : Option _) → x.held c ≡ o → HoldsDigest d o → Sound x c
       by None e has = absurd has
       by (Some b) e has = (b, record { digest = d; live = live; held = e; right = same d has })
         where
           same : (d : Digest) → digest_bytes b ≡ d.bytes → digest_of b ≡ d
           same d e = ap digest_with e ∙ refl
 
-module _ (t : Table) (first kept stopped then : Holdings) (k : IsKept t first kept) (w : IsStopped t kept stopped) (p : IsPutBack t stopped then) where
+module _ (t : Table) (first kept stopped then : Holdings) (k : IsParityKept t first kept) (w : IsSessionStopped t kept stopped) (p : IsPutBack t stopped then) where
   -- at the cursor
   parity_sound : (c : ℕ) → t.cursor.stripe < t.stripes → c < width t → t.data_columns ≤ c → Sound (stripe_of t first t.cursor.stripe) c → Sound (stripe_of t then t.cursor.stripe) c
   parity_sound c lt lc le sound =
@@ -65,7 +65,7 @@ module _ (t : Table) (first kept stopped then : Holdings) (k : IsKept t first ke
       let n = serving_at t s c in
       let d = sound.1.digest in
       let same : then n s ≡ first n s = p.others s c d lt lc sound.1.live other ∙ (w.others s c d lt lc sound.1.live other ∙ k.same n s lt) in
-      is_sound (stripe_of t then s) c d sound.1.live (subst (HasDigest d) (sym same) (has_digest (stripe_of t first s) c sound))
+      is_sound (stripe_of t then s) c d sound.1.live (subst (HoldsDigest d) (sym same) (has_digest (stripe_of t first s) c sound))
 
   bears : (s c : ℕ) → s < t.stripes → c < width t → Sound (stripe_of t first s) c → Sound (stripe_of t then s) c
   bears s c lt lc sound = by (s == t.cursor.stripe) (nat_le t.data_columns c) refl refl

@@ -12,8 +12,8 @@ use Rattle.pot_recheck.specs.Finding.{IsFound}
 
 -- The bytes are those of the image that this one comes to where the slots that are named are found
 -- again. There is one such image (`FoundOnce` of `pot_recheck`).
-abbrev pub IsWritten : List Unsound → Image → List ℕ → Type 0
-IsWritten found old bytes =
+abbrev pub IsImageWritten : List Unsound → Image → List ℕ → Type 0
+IsImageWritten found old bytes =
     (new : Image) × IsFound found (contents old) (contents new)
     × (bytes ≡ image_bytes (contents new))
 
@@ -26,5 +26,5 @@ KeepsRules found old =
 abbrev pub FindsIn : List ℕ → List Unsound → Option (Vec ℕ Global) → Type 0
 FindsIn bytes found None = (fault : ImageFault) × AnswersImage bytes (Err fault)
 FindsIn bytes found (Some new) =
-    (old : Image) × AnswersImage bytes (Ok old) × IsWritten found old new.items
+    (old : Image) × AnswersImage bytes (Ok old) × IsImageWritten found old new.items
     × KeepsRules found old

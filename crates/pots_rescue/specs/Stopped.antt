@@ -18,28 +18,28 @@ pub record IsAtCursor (t : Table) (c : ℕ) (d : Digest) (n : ℕ) : Type 0 wher
   pub serves : serving_at t t.cursor.stripe c ≡ n
 
 -- each Live slot holds what it held, but for parity slots of the stripe at the cursor
-abbrev pub OthersStay : Table → Holdings → Holdings → Type 0
-OthersStay t old new =
+abbrev pub OtherSlotsStay : Table → Holdings → Holdings → Type 0
+OtherSlotsStay t old new =
     (s c : ℕ) (d : Digest) → s < t.stripes → c < width t → slot_at t s c ≡ Live d
     → (s ≡ t.cursor.stripe → t.data_columns ≤ c → ⊥)
     → new (serving_at t s c) s ≡ old (serving_at t s c) s
 
 -- KEPT: a block of each such slot is brought to slot Z of its archive. Below Z each archive holds
 -- what it held.
-pub record IsKept (t : Table) (old new : Holdings) : Type 0 where
+pub record IsParityKept (t : Table) (old new : Holdings) : Type 0 where
   pub same : (n s : ℕ) → s < t.stripes → new n s ≡ old n s
   pub spare : (c : ℕ) (d : Digest) (n : ℕ) → IsAtCursor t c d n
       → (b : Brought) × IsBrought d b (old n t.cursor.stripe) (old n t.stripes) (new n t.stripes)
 
 -- STOPPED: a session wrote what it may write: slots that are not Live, and parity slots of the
 -- stripe at the cursor. It wrote into no slot Z.
-pub record IsStopped (t : Table) (old new : Holdings) : Type 0 where
-  pub others : OthersStay t old new
+pub record IsSessionStopped (t : Table) (old new : Holdings) : Type 0 where
+  pub others : OtherSlotsStay t old new
   pub spare : (n : ℕ) → new n t.stripes ≡ old n t.stripes
 
 -- PUT BACK: a block of each such slot is brought from slot Z.
 pub record IsPutBack (t : Table) (old new : Holdings) : Type 0 where
-  pub others : OthersStay t old new
+  pub others : OtherSlotsStay t old new
   pub parity : (c : ℕ) (d : Digest) (n : ℕ) → IsAtCursor t c d n
       → (b : Brought)
       × IsBrought d b (old n t.stripes) (old n t.cursor.stripe) (new n t.cursor.stripe)
@@ -49,6 +49,6 @@ pub record IsPutBack (t : Table) (old new : Holdings) : Type 0 where
 abbrev pub StoppedBears : Type 0
 StoppedBears =
     (t : Table) (first kept stopped then : Holdings)
-    → IsKept t first kept → IsStopped t kept stopped → IsPutBack t stopped then
+    → IsParityKept t first kept → IsSessionStopped t kept stopped → IsPutBack t stopped then
     → (s c : ℕ) → s < t.stripes → c < width t
     → Sound (stripe_of t first s) c → Sound (stripe_of t then s) c

@@ -1,7 +1,7 @@
 //! A block of a wanted digest is brought from one slot to another.
 ghost use Rattle.std.specs.Prelude.{◌≡◌, ◌↔◌, IsTrue};
 ghost use Rattle.pot_bytes.specs.Digests.{digest_bytes};
-ghost use Rattle.pots_rescue.specs.Bringing.{Brings, ReadsSound};
+ghost use Rattle.pots_rescue.specs.Bringing.{BringsBlock, ReadsSound};
 
 use pot_bytes::{Block, Digest, digest_of};
 use pot_outside::{Archive, Failed, Held};
@@ -29,7 +29,8 @@ pub fn bring<A: Archive, B: Archive>(
     to: &mut B,
     target: u32,
 ) -> Result<Brought, Failed>
-    ensures { Brings (IsTrue A.account.tells) (IsTrue B.account.tells) digest source target result
+    ensures { BringsBlock (IsTrue A.account.tells) (IsTrue B.account.tells) digest source target
+        result
         (A.account.meaning from.old) (A.account.meaning from.new)
         (B.account.meaning to.old) (B.account.meaning to.new) }
 {

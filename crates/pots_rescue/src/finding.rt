@@ -2,8 +2,8 @@
 ghost use Rattle.std.specs.Prelude.{IfOk, OnOk};
 ghost use Rattle.pot_image.specs.Images.{contents};
 ghost use Rattle.pot_image.specs.Rules.{FitsTogether};
-ghost use Rattle.pot_recheck.specs.Rechecking.{WasRead};
-ghost use Rattle.pots_rescue.specs.Finding.{FindsIn, IsWritten, KeepsRules};
+ghost use Rattle.pot_recheck.specs.Rechecking.{ImageWasRead};
+ghost use Rattle.pots_rescue.specs.Finding.{FindsIn, IsImageWritten, KeepsRules};
 
 use crate::bringing::read_sound;
 use crate::opening::open_to_look;
@@ -55,8 +55,8 @@ pub fn found_bytes(
 /// The bytes of the image in which these slots are Live again.
 fn write_found(alloc: Global, image: Image, found: &[Unsound]) -> Result<Vec<u8>, NoMemory>
     requires fits { FitsTogether (contents image) }
-    requires read { WasRead image }
-    ensures bytes { IfOk result (λ bytes. IsWritten found.now image bytes.items) }
+    requires read { ImageWasRead image }
+    ensures bytes { IfOk result (λ bytes. IsImageWritten found.now image bytes.items) }
     ensures rules { OnOk result (KeepsRules found.now image) }
 {
     let mut image = image;

@@ -31,8 +31,8 @@ fn unmade(visit: &Visit, path: &str) -> Result<Stop, Stop> {
     Ok(visit.refuse(5, line.as_str()))
 }
 
-/// Makes an empty archive at its place for each that a new vault of this shape has, and a link to it
-/// in the working folder. What is there already stays.
+/// Makes an empty archive at its place for each that a new vault of this shape has, and a link to
+/// it in the working folder. What is there already stays.
 pub fn lay_archives(visit: &Visit, named: &Named, rack: &Rack) -> Result<(), Stop> {
     named.look_at_count(visit, rack)?;
     look_for_mounts(visit, named)?;

@@ -146,8 +146,8 @@ impl<'a> Way<'a> {
         Ok(leads_to(&visit.rt, folder.as_str(), self.goal))
     }
 
-    /// Copies the archives of the place to its goal, where they are not there yet. Of one that should
-    /// have blocks and has none here, what is at the goal stays.
+    /// Copies the archives of the place to its goal, where they are not there yet. Of one that
+    /// should have blocks and has none here, what is at the goal stays.
     pub fn copy(&self, visit: &Visit, image: &Image) -> Result<(), Stop> {
         for holding in holdings(visit.alloc(), image)?.iter() {
             if place_of(&image.rack, holding.group) == self.place {

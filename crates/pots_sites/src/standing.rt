@@ -22,8 +22,8 @@ pub struct Sum {
     free: u64,
 }
 
-/// Tells of each place that has a name whether it is mounted, whether all that it held is there, and
-/// how much more its archives take.
+/// Tells of each place that has a name whether it is mounted, whether all that it held is there,
+/// and how much more its archives take.
 pub fn tell_places(visit: &Visit, image: &Image) -> Result<(), Stop> {
     let Some(named) = places_here(&visit.rt)? else {
         return Ok(());

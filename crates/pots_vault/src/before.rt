@@ -1,6 +1,6 @@
 //! What is looked at before a session: that each archive of which the desk speaks is there, in a
-//! file of its own and under its own number, and gives what it holds, and whether the session before
-//! came to its end.
+//! file of its own and under its own number, and gives what it holds, and whether the session
+//! before came to its end.
 
 use crate::archives::{Standing, archive_name, look_at, look_for_file, named};
 use crate::desk::{image_bytes, parsed};

@@ -1,5 +1,5 @@
-//! `recover` with `--columns` and `--parity`: where a data archive of a group is gone, its blocks are
-//! made anew from the others of its group. The archives are read as they lie, and none is made.
+//! `recover` with `--columns` and `--parity`: where a data archive of a group is gone, its blocks
+//! are made anew from the others of its group. The archives are read as they lie, and none is made.
 //!
 //! The words that are left are those of `recover`, which `run` works over that room. What a block
 //! that was made is worth the digests of contents tell, as of any other.
@@ -17,12 +17,12 @@ use std::thread::Threads;
 const NO_MEMORY: u8 = 70;
 
 /// The options of `recover` that `run` reads, and behind them the two that it does not.
-static NAMES: [&str; 7] = [
-    "archives", "stripes", "blur", "robust", "open", "columns", "parity",
+static NAMES: [&str; 8] = [
+    "archives", "stripes", "blur", "robust", "open", "bounded", "columns", "parity",
 ];
 
 /// How many of the names `run` reads.
-const OF_RUN: usize = 5;
+const OF_RUN: usize = 6;
 
 /// A recovery over archives of which some are made anew.
 #[derive(Drop)]

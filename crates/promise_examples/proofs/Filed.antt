@@ -22,7 +22,7 @@ use Rattle.pot_image.specs.Images.{Contents}
 use Rattle.pot_index.specs.Records.{current_of}
 use Rattle.pot_audit.specs.Hiding.{places_of}
 use Rattle.pot_replies.specs.Sections.{Section}
-use Rattle.pot_promises.specs.Answers.{IsAnswered, StandsAt}
+use Rattle.pot_promises.specs.Answers.{IsAnswered, CommandStandsAt}
 use Rattle.pot_promises.specs.Chains.{Same, More}
 use Rattle.pot_promises.specs.Fetched.{Before, FetchAnswers, Here, SaysOf, WasStored, blocks_put}
 use Rattle.pot_promises.specs.Odds.{NeverOdd, NeverOddLater, NoneRenewed, OddReads}
@@ -93,7 +93,7 @@ next_fetch_says_so law before begun left session seed first last room missing st
 none_renewed : (rack : Rack) (listed r : Reply) → NoneRenewed rack script (said listed r) 1 name
 none_renewed rack listed r k i geometry given pieces shards le answered = by k le answered.step answered.there answered.command
   where
-    alone : (x : Step) (i : ℕ) → ◌≡◌ {A = _} (Some (steps.One (commands.Store name file))) (Some x) → StandsAt x i (commands.Renew name geometry) → ⊥
+    alone : (x : Step) (i : ℕ) → ◌≡◌ {A = _} (Some (steps.One (commands.Store name file))) (Some x) → CommandStandsAt x i (commands.Renew name geometry) → ⊥
     alone (steps.One d) i e at = not_store (store_is d e ∙ at.1)
       where
         store_is : (d : Command) → ◌≡◌ {A = _} (Some (steps.One (commands.Store name file))) (Some (steps.One d)) → commands.Store name file ≡ d
@@ -114,13 +114,13 @@ none_renewed rack listed r k i geometry given pieces shards le answered = by k l
         none : ◌≡◌ {A = _} None (Some (commands.Renew name geometry)) → ⊥
         none e = cc
 
-    behind : (x : Step) (i : ℕ) → ◌≡◌ {A = _} (Some (steps.Together (commands.List ∷ commands.Fetch name ∷ []))) (Some x) → StandsAt x i (commands.Renew name geometry) → ⊥
-    behind x i e at = line i (subst (λ (y : Step). StandsAt y i (commands.Renew name geometry)) (is x e) at)
+    behind : (x : Step) (i : ℕ) → ◌≡◌ {A = _} (Some (steps.Together (commands.List ∷ commands.Fetch name ∷ []))) (Some x) → CommandStandsAt x i (commands.Renew name geometry) → ⊥
+    behind x i e at = line i (subst (λ (y : Step). CommandStandsAt y i (commands.Renew name geometry)) (is x e) at)
       where
         is : (x : Step) → ◌≡◌ {A = _} (Some (steps.Together (commands.List ∷ commands.Fetch name ∷ []))) (Some x) → x ≡ steps.Together (commands.List ∷ commands.Fetch name ∷ [])
         is x e = cc
 
-    by : (k : ℕ) → k ≤ 1 → (x : Step) → slice_get script k ≡ Some x → StandsAt x i (commands.Renew name geometry) → ⊥
+    by : (k : ℕ) → k ≤ 1 → (x : Step) → slice_get script k ≡ Some x → CommandStandsAt x i (commands.Renew name geometry) → ⊥
     by zero le x e at = alone x i e at
     by (suc zero) le x e at = behind x i e at
     by (suc (suc k)) le x e at = absurd (omega (arith, le))

@@ -2,13 +2,13 @@
 use Rattle.std.proofs.Common.{◌≡◌, ◌≢◌, ◌⊎◌, inl, inr, ℕ, List, None, true, refl, sym, subst, ◌∙◌}
 use Rattle.std.specs.Prelude.{Option}
 use Rattle.pot_bytes.specs.declared.rack.Rack.{Rack}
-use Rattle.pot_outside.specs.Accounts.{held_in}
+use Rattle.pot_outside.specs.Desks.{image_met}
 use Rattle.pot_session.specs.declared.ending.status.Status.{Status}
 use Rattle.pot_session.specs.declared.ending.status.Status.TheVariants as status
 use Rattle.pot_session.specs.Making.{empty_contents}
 use Rattle.pot_promises.specs.Chains.{Same}
 use Rattle.pot_promises.specs.Complete.{IsFault, NextIsAnswered, RunsAreAnswered}
-use Rattle.pot_promises.specs.Runs.{Bare, Came, CarefulKeeps, ClosedAs, DesksStayGood, HasImage, HasLater, IsDone, IsKeptAs, NeverRefused, Next, NoneClosed, Recheck, RechecksBegin, RunsAreSessions, RunsGoLater, RunsMayClose}
+use Rattle.pot_promises.specs.Runs.{Bare, CameTo, CarefulKeeps, ClosedAs, DesksStayGood, HasImage, HasLater, IsDone, IsKeptAs, NeverRefused, Next, NoneClosed, Recheck, RechecksBegin, RunsAreSessions, RunsGoLater, RunsMayClose}
 use Rattle.pot_promises.specs.Words.{WordsAreAnswered}
 use Rattle.promise_examples.specs.Desks.{BeginsAfterRecheck, FailedCloses, GoesOnFromNew, GoodIsWritten, InitIsMade, NeverTurnedAway, NoneIsRefused, NoneIsRefusedNext, NothingIsRefused}
 
@@ -16,11 +16,11 @@ pub never_turned_away : DesksStayGood → NeverRefused → NeverTurnedAway
 never_turned_away good law made one a first bare runs told desk answer is rechecks words drawn b second held there runs_b told_b run spells =
     by (good desk.after came)
   where
-    came_a : Came a.desk.after.held
-    came_a = Next made one a first (subst Came (sym bare) Bare) runs told
+    came_a : CameTo a.desk.after.held.now
+    came_a = Next made one a first (subst CameTo (sym bare) Bare) runs told
 
-    came : Came desk.after
-    came = Recheck desk answer (subst Came (sym is) came_a) rechecks
+    came : CameTo desk.after
+    came = Recheck desk answer (subst CameTo (sym is) came_a) rechecks
 
     by : (desk.after ≡ None) ⊎ ((rack : Rack) × HasLater (empty_contents rack) desk.after) → second ≢ status.ImageRefused
     by (inl none) = absurd (there none)
@@ -42,11 +42,11 @@ pub failed_closes : RunsMayClose → CarefulKeeps → FailedCloses
 failed_closes may keeps seed seen holds told closes =
     (closed (may seed true seen status.SinkFault holds told), kept (keeps seed seen status.SinkFault holds (inl refl) told))
   where
-    closed : ClosedAs seed seen ⊎ NoneClosed (held_in seen.desk) → ClosedAs seed seen
+    closed : ClosedAs seed seen ⊎ NoneClosed (image_met seen.desk) → ClosedAs seed seen
     closed (inl c) = c
     closed (inr none) = absurd (closes none)
 
-    kept : IsKeptAs seed seen ⊎ NoneClosed (held_in seen.desk) → IsKeptAs seed seen
+    kept : IsKeptAs seed seen ⊎ NoneClosed (image_met seen.desk) → IsKeptAs seed seen
     kept (inl c) = c
     kept (inr none) = absurd (closes none)
 

@@ -1,5 +1,4 @@
 -- The streams of jobs.
-use Rattle.std.proofs.Common.{◌≡◌}
 use Rattle.pot_promises.specs.Stretches.{StreamsApart}
 use Rattle.promise_examples.specs.Archives.{StreamsAreTwo}
 

@@ -1,11 +1,12 @@
 -- What laws say of archives that failed, or lost blocks, and of the blinds of relays.
 use Rattle.std.specs.Prelude.{◌≡◌, ◌≢◌, ◌<◌, ◌+◌, ◌*◌, ◌^◌, ℕ, Bool, IsTrue, true, None, List, []}
-use Rattle.std.specs.Prelude.{◌∷◌, length, suc, Option}
+use Rattle.std.specs.Prelude.{◌∷◌, length, suc}
 use Rattle.std.specs.List.{AllByRecursion}
 use Rattle.pot_bytes.specs.Digests.{digest_of}
 use Rattle.pot_bytes.specs.Sums.{xor, zero_block}
 use Rattle.pot_bytes.specs.declared.rack.Rack.{Rack}
 use Rattle.pot_outside.specs.Accounts.{Content, Transition}
+use Rattle.pot_outside.specs.Desks.{Images}
 use Rattle.pot_outside.specs.Counts.{Rose}
 use Rattle.pot_outside.specs.Rooms.{RoomState}
 use Rattle.pot_machine.specs.declared.entry.Entry.{Entry}
@@ -22,7 +23,7 @@ use Rattle.pot_script.specs.Steps.{IsWholeStep}
 use Rattle.pot_image.specs.Images.{Contents}
 use Rattle.pot_image.specs.Rules.{FitsTogether, IsImage}
 use Rattle.pot_replies.specs.Fetches.{seen_of}
-use Rattle.pot_replies.specs.Sections.{Section, Follows, mine}
+use Rattle.pot_replies.specs.Sections.{Section, FollowsSection, mine}
 use Rattle.pot_replies.specs.Sessions.{Replied}
 use Rattle.pot_commands.specs.Rows.{Row}
 use Rattle.pot_commands.specs.Steps.{steps_of}
@@ -62,7 +63,7 @@ FaultIsCounted =
     (block seed : List ℕ) (first last : Contents) (room : Transition RoomState) (story : Section)
     → FitsTogether first → IsTrue room.tells → Leaves room [] first last story
     → first.tables ≡ full block ∷ [] → last.group_logs ≡ (entry.Fault 1 0 0 ∷ []) ∷ []
-    → (done later : Section) → Follows done later story
+    → (done later : Section) → FollowsSection done later story
     → Replied (Row (setting_of seed first)) 1 (steps_of scrubs) (replies.Fault 0 0 ∷ []) done
     → Rose (room.before.means 0).faults (room.after.means 0).faults
 
@@ -86,7 +87,7 @@ LostSawFew =
     (seed : List ℕ) (first last : Contents) (room : Transition RoomState) (story : Section)
     → FitsTogether first → IsTrue room.tells → Leaves room [] first last story
     → ((n : ℕ) → Rose (room.before.means n).losses (room.after.means n).losses → ⊥)
-    → (done later : Section) → Follows done later story → (fragment have need : ℕ)
+    → (done later : Section) → FollowsSection done later story → (fragment have need : ℕ)
     → Replied (Row (setting_of seed first)) 1 (steps_of fetches)
     (replies.Lost name 0 fragment have need ∷ []) done
     → AllByRecursion (IsWholeStep first.rack) fetches → SawFew fragment last.group_logs
@@ -117,7 +118,7 @@ abbrev pub BlindsAreTwo : Type 0
 BlindsAreTwo =
     (seed : List ℕ) (careful : Bool) (first : Contents) (steps : List Step)
     (room : Transition RoomState) (sink : Transition (List ℕ))
-    (desk : Transition (Content (Option (List ℕ)))) (answer : Status)
+    (desk : Transition (Content Images)) (answer : Status)
     → IsImage first → (c : IsClosed seed careful first steps room sink desk answer)
     → (its : ℕ → List (List ℕ)) × HaveBlinds c.leaves.groups 1 its × HaveTwo seed first.session its
 

@@ -17,14 +17,14 @@ use Rattle.pot_veil.specs.Veiled.{Spot, is_seen}
 use Rattle.pot_image.specs.Images.{Contents}
 use Rattle.pot_image.specs.Rules.{FitsTogether}
 use Rattle.pot_replies.specs.Digests.{NoTwoAlike}
-use Rattle.pot_replies.specs.Sections.{Section, Follows}
+use Rattle.pot_replies.specs.Sections.{Section, FollowsSection}
 use Rattle.pot_replies.specs.Sessions.{Replied}
 use Rattle.pot_replies.specs.Stores.{Placed, place_of}
 use Rattle.pot_commands.specs.Rows.{Row}
 use Rattle.pot_commands.specs.Steps.{steps_of}
 use Rattle.pot_session.specs.Serving as serving
 use Rattle.pot_session.specs.Serving.{setting_of}
-use Rattle.pot_promises.specs.Chains.{Begins, IsSession, Leaves}
+use Rattle.pot_promises.specs.Chains.{BeginsFrom, IsSession, LeavesImage}
 use Rattle.pot_promises.specs.Odds.{WasOdd}
 use Rattle.pot_promises.specs.Renewed.{WasRenewed, split_blocks}
 use Rattle.pot_promises.specs.Veils.{HasStored, stream_blocks}
@@ -45,8 +45,8 @@ abbrev pub GivenBackByTheThird : Type 0
 GivenBackByTheThird =
     (seed : List ℕ) (first last : Contents)
     → IsSession seed first last stores (stored ∷ [])
-    → (begun left : Contents) → Begins last begun → Leaves begun left
-    → (other : List ℕ) (third end : Contents) → Begins left third
+    → (begun left : Contents) → BeginsFrom last begun → LeavesImage begun left
+    → (other : List ℕ) (third end : Contents) → BeginsFrom left third
     → (listed : Reply) (bytes : List ℕ)
     → IsSession other third end fetches (listed ∷ replies.File name bytes ∷ [])
     → NoTwoAlike (file ∷ bytes ∷ []) → bytes ≡ file
@@ -69,7 +69,7 @@ FetchSaysSo =
     (seed : List ℕ) (first last : Contents) (room : Transition RoomState) (missing : List ℕ)
     (story : Section)
     → FitsTogether first → serving.Leaves room missing first last story
-    → (done later : Section) → Follows done later story → (listed r : Reply)
+    → (done later : Section) → FollowsSection done later story → (listed r : Reply)
     → Replied (Row (setting_of seed first)) 1 (steps_of script) (said listed r) done
     → AllByRecursion (IsWholeStep first.rack) script → SaysSo last r
 
@@ -78,9 +78,9 @@ abbrev pub NextFetchSaysSo : Type 0
 NextFetchSaysSo =
     (before : List ℕ) (begun left : Contents) → IsSession before begun left stores (stored ∷ [])
     → (seed : List ℕ) (first last : Contents) (room : Transition RoomState) (missing : List ℕ)
-    (story : Section) → Begins left first
+    (story : Section) → BeginsFrom left first
     → FitsTogether first → serving.Leaves room missing first last story
-    → (done later : Section) → Follows done later story → (listed r : Reply)
+    → (done later : Section) → FollowsSection done later story → (listed r : Reply)
     → Replied (Row (setting_of seed first)) 1 (steps_of fetches) (listed ∷ r ∷ []) done
     → AllByRecursion (IsWholeStep first.rack) fetches → SaysSo last r
 
@@ -101,7 +101,7 @@ abbrev pub NextOddHasCause : Type 0
 NextOddHasCause =
     (before : List ℕ) (begun left : Contents) → IsSession before begun left stores (stored ∷ [])
     → (seed : List ℕ) (first last : Contents) (listed : Reply) (wanted got : Digest)
-    → Begins left first
+    → BeginsFrom left first
     → (session : IsSession seed first last fetches (listed ∷ replies.Odd name wanted got ∷ []))
     → (read : List (List ℕ))
     × (was : WasOdd read seed first fetches session.replied.ones 0 1 name wanted got)
@@ -137,7 +137,7 @@ NextRenewedOddHasCause =
     (before : List ℕ) (begun left : Contents) (r : Reply)
     → (one : IsSession before begun left renews (stored ∷ renewed ∷ r ∷ []))
     → (seed : List ℕ) (first last : Contents) (listed : Reply) (wanted got : Digest)
-    → Begins left first
+    → BeginsFrom left first
     → (session : IsSession seed first last fetches (listed ∷ replies.Odd name wanted got ∷ []))
     → (read : List (List ℕ))
     × (was : WasOdd read seed first fetches session.replied.ones 0 1 name wanted got)

@@ -13,7 +13,7 @@ use Rattle.pot_theorem.specs.Hard.{HoldsInWorld, TheHardProperty}
 use Rattle.pot_theorem.specs.Sessions.{AreInARow, ClosedSession}
 use Rattle.pot_theorem.specs.Worlds.{IsGroupOf, IsInWorld, RunsReach}
 use Rattle.pot_theorem.proofs.Another.{bytes_blocks, fits_sessions, SeesAsPut}
-use Rattle.run_examples.specs.InWorld.{HoldsBlock, IsServed, ParitySees, PutInWorld, has_parity}
+use Rattle.run_examples.specs.InWorld.{HoldsBlock, IsBlockServed, ParitySees, PutInWorld, has_parity}
 use Rattle.run_examples.specs.OnePut.{put_of}
 use Rattle.run_examples.specs.Quiet.{small}
 use Rattle.run_examples.proofs.OnePut.{full, in_a_row, stored}
@@ -51,7 +51,7 @@ module _ (block : List ℕ) (is_block : IsBlock block) where
     abbrev world : HoldsInWorld session []
     world = law session [] row
 
-    is_served : (h : WorldGroup) → slice_get world.world.site.groups 0 ≡ Some h → IsServed block h
+    is_served : (h : WorldGroup) → slice_get world.world.site.groups 0 ≡ Some h → IsBlockServed block h
     is_served h there = record {
       digest = world.places session (0, omega arith, refl) 0 bare (full block is_block) (put_of block ∷ []) h (put_of block) 0 0 (digest_of block) of_group there (0, omega arith, refl) (refl, refl, refl);
       serves = (world.serve 0 bare (full block is_block) (put_of block ∷ []) h 0 0 of_group there (omega arith) refl).0;

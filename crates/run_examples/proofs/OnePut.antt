@@ -25,7 +25,7 @@ use Rattle.pot_steps.specs.Stripe.{Sound}
 use Rattle.pot_steps.proofs.Acting.{act_keeps}
 use Rattle.pot_shelves.specs.Shelves.{Shelves, nothing}
 use Rattle.pot_group.specs.Causes.{archives_of, faults_in}
-use Rattle.pot_group.specs.Frames.{WrittenBy}
+use Rattle.pot_group.specs.Frames.{Tries, WrittenBy}
 use Rattle.pot_group.specs.Group.{GroupView, IsSettled}
 use Rattle.pot_group.proofs.Opened.{handed_all}
 use Rattle.pot_image.specs.Images.{Contents}
@@ -127,14 +127,14 @@ module _ (block : List ℕ) (is_block : IsBlock block) where
 
   -- THE GROUP AS IT IS LEFT
 
-  written : (n k : ℕ) (b : List ℕ) → holding n k ≡ Some b → WrittenBy bare (put_entry ∷ []) n k b
+  written : (n k : ℕ) (b : List ℕ) → holding n k ≡ Some b → WrittenBy [] 0 bare (put_entry ∷ []) n k b
   written zero zero b e = inl (refl, inl (refl, ap digest_of (sym (same_Some block b e))))
   written zero (suc k) b e = nothing_is e
   written (suc zero) zero b e = inl (refl, inr (refl, ap digest_of (sym (same_Some parity_block b e))))
   written (suc zero) (suc k) b e = nothing_is e
   written (suc (suc n)) k b e = nothing_is e
 
-  written_ever : (n : ℕ) (b : List ℕ) → Contains (ever n) b → (slot : ℕ) × WrittenBy bare (put_entry ∷ []) n slot b
+  written_ever : (n : ℕ) (b : List ℕ) → Contains (ever n) b → (slot : ℕ) × WrittenBy [] 0 bare (put_entry ∷ []) n slot b
   written_ever zero b h = (0, written zero zero b (ap Some (one_contained block b h)))
   written_ever (suc zero) b h = (0, written (suc zero) zero b (ap Some (one_contained parity_block b h)))
   written_ever (suc (suc n)) b h = absurd (none_contained b h)
@@ -155,7 +155,7 @@ module _ (block : List ℕ) (is_block : IsBlock block) where
   }
 
   abbrev view : GroupView
-  view = record { number = 0; first = bare; table = full; log = put_entry ∷ []; flights = []; blinds = []; shelves = shelves }
+  view = record { number = 0; first = bare; table = full; log = put_entry ∷ []; flights = []; blinds = []; tried = []; shelves = shelves }
 
   homes : (k n : ℕ) → k < width full → IsTrue (names (column_at full k) n) → Contains (archives_of bare (put_entry ∷ []) k) n
   homes zero n lt h = home_is zero n (omega arith) h
@@ -199,6 +199,7 @@ module _ (block : List ℕ) (is_block : IsBlock block) where
       kept = λ n k b e. nothing_is e;
     };
     blinds = refl;
+    tried = record { few = omega arith; below = λ x h. absurd (none_contained x h) };
     heard = λ t. record { givens = [] ∷ []; are = refl; fly = (tt, (refl, refl)); sums = λ n x h. absurd (none_contained x h) };
   }
 
@@ -222,6 +223,7 @@ module _ (block : List ℕ) (is_block : IsBlock block) where
     at_work = All-cons IsAtWork (Put 1 block (Placed 0 0)) [] tt (All-nil IsAtWork);
     leads = (after_put, is_block, puts, refl);
     blinds = refl;
+    tried = λ x h. absurd (none_contained x h);
     came = (tt, tt);
     coherent = λ n. record { past = λ k b e. nothing_is e; low = λ k b e. nothing_is e };
   }
@@ -342,16 +344,16 @@ module _ (block : List ℕ) (is_block : IsBlock block) where
   differs : (n : ℕ) → n ≡ 0 → n ≡ 1 → ⊥
   differs n a b = omega (arith, a, b)
 
-  named : (b : List ℕ) → (nothing.held 0 ≡ Some b) ⊎ WrittenBy bare (put_entry ∷ []) 0 0 b → digest_of b ≡ digest_of block
-  named b (inl was) = nothing_is was
-  named b (inr (inl (slot, inl x))) = x.1
-  named b (inr (inl (slot, inr x))) = absurd (differs zero refl x.0)
-  named b (inr (inr none)) = absurd none
+  named : (tried : Tries) (b : List ℕ) → (nothing.held 0 ≡ Some b) ⊎ WrittenBy tried 0 bare (put_entry ∷ []) 0 0 b → digest_of b ≡ digest_of block
+  named tried b (inl was) = nothing_is was
+  named tried b (inr (inl (slot, inl x))) = x.1
+  named tried b (inr (inl (slot, inr x))) = absurd (differs zero refl x.0)
+  named tried b (inr (inr none)) = absurd none
 
   holds_there : FrameOfRun → (b : List ℕ) → (means 0).held 0 ≡ Some b → digest_of b ≡ digest_of block
   holds_there law b e =
       let frame = law first_image last_image room [] story refl leaves 0 bare (put_entry ∷ []) refl refl in
-      named b ((frame.3 0 (0, omega arith, refl) refl).held 0 b (omega arith) e)
+      named frame.0 b ((frame.4 0 (0, omega arith, refl) refl).held 0 b (omega arith) e)
 
 pub put_session : TheHardProperty → FrameOfRun → PutSession
 put_session law frames block is_block = (

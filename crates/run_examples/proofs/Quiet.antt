@@ -1,5 +1,5 @@
--- A first session of a small rack in which nothing was done: what is asked of a first session can be
--- had.
+-- A first session of a small rack in which nothing was done: what is asked of a first session can
+-- be had.
 use Rattle.std.proofs.Common.{◌≡◌, inl, inr, ℕ, zero, suc, ◌<◌, ◌≤◌, List, [], ◌∷◌, ◌++◌, Some, None, Bool, true, false, IsTrue, refl, sym, subst, arith, length}
 use Rattle.std.specs.Prelude.{All, Contains, slice_get}
 use Rattle.std.proofs.lemmas.List.Elements.{All-nil, All-cons}
@@ -43,12 +43,12 @@ use Rattle.pot_bytes.specs.Rack.{log_bound}
 use Rattle.pot_machine.specs.Machine.{Replays}
 use Rattle.pot_group.proofs.Opened.{handed_all}
 use Rattle.pot_index.specs.Fits.{FitsRack}
-use Rattle.pot_index.specs.Index.{Ascends, names_read}
+use Rattle.pot_index.specs.Index.{NamesAscend, names_read}
 use Rattle.std.specs.List.Sorted.{IsStrictlySortedBy}
 use Rattle.pot_image.specs.Rules.{IsRecordOver}
 use Rattle.pot_shared.specs.Groups.{IsOpened}
 use Rattle.pot_execution.specs.Execution.{IsAtWork}
-use Rattle.pot_refinement.specs.Refinement.{IsEmpty, is_clean}
+use Rattle.pot_refinement.specs.Refinement.{IsArchiveEmpty, is_clean}
 use Rattle.pot_session.specs.Serving.{RoseInRoom, RoseOftenInRoom}
 use Rattle.pot_shared.proofs.OpeningFew.{none_served}
 use Rattle.pot_shared.proofs.Times.{times_there}
@@ -142,7 +142,7 @@ shelves = record {
 }
 
 abbrev view : GroupView
-view = record { number = 0; first = bare; table = bare; log = []; flights = []; blinds = []; shelves = shelves }
+view = record { number = 0; first = bare; table = bare; log = []; flights = []; blinds = []; tried = []; shelves = shelves }
 
 -- its columns have the archives 0 and 1
 pub home_is : (k n : ℕ) → k < width bare → IsTrue (names (column_at bare k) n) → Contains (archives_of bare [] k) n
@@ -175,6 +175,7 @@ settled told = record {
   causes = record { faults = λ k lk. inr (omega arith); losses = λ t k lk. tt };
   frame = λ t. record { held = λ n k b e. nothing_is e; history = λ n b h. absurd (none_contained b h); kept = λ n k b e. nothing_is e };
   blinds = refl;
+  tried = record { few = omega arith; below = λ x h. absurd (none_contained x h) };
   heard = λ t. record { givens = []; are = refl; fly = (refl, refl); sums = λ n x h. absurd (none_contained x h) };
 }
 
@@ -198,6 +199,7 @@ execution = record {
   at_work = All-nil IsAtWork;
   leads = refl;
   blinds = refl;
+  tried = λ x h. absurd (none_contained x h);
   came = tt;
   coherent = λ n. record { past = λ k b e. nothing_is e; low = λ k b e. nothing_is e };
 }
@@ -291,7 +293,7 @@ leaves = record {
   put = record { puts = λ r brought b p at. absurd (none_contained _ brought.1); once = λ job name mark r h. absurd (none_contained _ h) };
 }
 
-none_ascend : Ascends []
+none_ascend : NamesAscend []
 unfolding IsStrictlySortedBy
 none_ascend = tt
 
@@ -323,7 +325,7 @@ apart = record { had = once; left = once }
 quiet : ClosedSession
 quiet = record { first = first_image; last = first_image; room = still_room; missing = []; story = no_story; fits = fits; told = refl; leaves = leaves; apart = apart }
 
-pub empty_archive : IsEmpty nothing
+pub empty_archive : IsArchiveEmpty nothing
 empty_archive = record { held = λ slot lt. refl; heard = refl }
 
 -- WHAT IS ASKED OF IT

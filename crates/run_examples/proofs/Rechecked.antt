@@ -1,19 +1,11 @@
 -- A file is given back after a recheck of the desk.
-use Rattle.std.proofs.Common.{◌≡◌, ◌⊎◌, inl, inr, ℕ, List, [], ◌∷◌, Option}
+use Rattle.std.proofs.Common.{◌≡◌, ◌⊎◌, inl, inr, ℕ, List, Option}
 use Rattle.std.specs.Prelude.{None}
-use Rattle.pot_outside.specs.Accounts.{Transition}
-use Rattle.pot_script.specs.declared.command.Command.TheVariants as commands
-use Rattle.pot_script.specs.declared.grouping.Step.{Step}
-use Rattle.pot_script.specs.declared.reply.Reply.{Reply}
-use Rattle.pot_script.specs.declared.reply.Reply.TheVariants as replies
 use Rattle.pot_image.specs.declared.image.Image.{Image}
-use Rattle.pot_image.specs.Images.{Contents, contents}
-use Rattle.pot_recheck.specs.declared.rechecking.Rechecked.{Rechecked}
+use Rattle.pot_image.specs.Images.{contents}
 use Rattle.pot_recheck.specs.declared.rechecking.Rechecked.TheVariants as rechecked
-use Rattle.pot_replies.specs.Digests.{NoTwoAlike}
 use Rattle.pot_session.specs.Desks.{HoldsImage, begun}
-use Rattle.pot_promises.specs.Answers.{IsAnswered}
-use Rattle.pot_promises.specs.Chains.{IsSession, Later, Same}
+use Rattle.pot_promises.specs.Chains.{Same}
 use Rattle.pot_promises.specs.Promises.{GivesBackLater}
 use Rattle.pot_promises.specs.Runs.{HasLater, RechecksGoOn, RunsGoOn}
 use Rattle.run_examples.specs.Rechecked.{BackAfterRecheck}

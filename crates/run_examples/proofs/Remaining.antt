@@ -18,7 +18,7 @@ use Rattle.pot_image.specs.Rules.{FitsTable, FitsTogether, IsRecordOver}
 use Rattle.pot_shared.specs.Hands.{times}
 use Rattle.pot_session.specs.Serving.{came_by}
 use Rattle.pot_promises.specs.Chains.{BeginsAfter, Never}
-use Rattle.pot_promises.specs.Remaining.{BlocksRemain, Brought, Elsewhere, Failed, HoldsOf, HoldsStill, Lost, NotBack, OlderDeskFinds, OneTakes, Past, ServedRemain}
+use Rattle.pot_promises.specs.Remaining.{BlocksRemainInRoom, Brought, Elsewhere, Failed, HoldsOf, HoldsStill, Lost, NotBack, OlderDeskFinds, OneTakes, PastSession, ServedRemain}
 use Rattle.run_examples.specs.Quiet.{small}
 use Rattle.run_examples.specs.Remaining.{IsStillThere, LogsNothing, OlderFinds, StillThere, full, left_by}
 use Rattle.run_examples.proofs.OnePut.{stood}
@@ -43,7 +43,7 @@ module _ (block : List ℕ) (is_block : IsBlock block) where
   served : HasServed (full block) 0 0 (digest_of block) 0
   served = serving_has (full block) 0 0 (digest_of block) is_full (omega arith) refl
 
-  module _ (x : Past) (quiet : LogsNothing block x) (held : (x.room.before.means 0).held 0 ≡ Some block) where
+  module _ (x : PastSession) (quiet : LogsNothing block x) (held : (x.room.before.means 0).held 0 ≡ Some block) where
     held_before : HoldsOf (x.room.before.means 0) 0 (digest_of block)
     held_before = (block, held, refl)
 
@@ -67,7 +67,7 @@ module _ (block : List ℕ) (is_block : IsBlock block) where
     not_brought : Contains (arrivals []) 0 → ⊥
     not_brought h = none_contained 0 h
 
-    remain : BlocksRemain → HoldsOf (x.room.after.means 0) 0 (digest_of block)
+    remain : BlocksRemainInRoom → HoldsOf (x.room.after.means 0) 0 (digest_of block)
     remain law =
         holds (law x.first x.last x.room x.missing x.story quiet.closed.fits quiet.closed.told quiet.closed.leaves 0 (full block) [] there log_is 0 0 (digest_of block) (omega arith) (omega arith) refl (back 0) not_brought)
 
@@ -97,7 +97,7 @@ module _ (block : List ℕ) (is_block : IsBlock block) where
         by (inl h) = h
         by (inr takes) = absurd (not_taken takes)
 
-pub still_there : BlocksRemain → ServedRemain → StillThere
+pub still_there : BlocksRemainInRoom → ServedRemain → StillThere
 still_there one other block is_block x quiet held = (remain block is_block x quiet held one, still_served block is_block x quiet held other)
 
 pub older_finds : OlderDeskFinds → OlderFinds

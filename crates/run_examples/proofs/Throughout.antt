@@ -1,6 +1,6 @@
 -- What is seen after the first of two sessions.
-use Rattle.std.proofs.Common.{◌≡◌, ℕ, Bool, false, List, [], ◌∷◌, Some, refl, sym, subst}
-use Rattle.std.specs.Prelude.{Contains, length, slice_get}
+use Rattle.std.proofs.Common.{◌≡◌, ℕ, Bool, false, List, [], ◌∷◌, sym, subst}
+use Rattle.std.specs.Prelude.{Contains, length}
 use Rattle.pot_machine.specs.declared.entry.Entry.{Entry}
 use Rattle.pot_machine.specs.Table.{Table}
 use Rattle.pot_world.specs.Audit.{Sight, Whole, sight_of}

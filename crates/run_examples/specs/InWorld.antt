@@ -16,7 +16,7 @@ HoldsBlock block z =
     (h : WorldGroup) → slice_get z.groups 0 ≡ Some h → h.state.held 0 0 ≡ Some block
 
 -- The block that was put there has the digest of the log, and archive 0 served it.
-pub record IsServed (block : List ℕ) (h : WorldGroup) : Type 0 where
+pub record IsBlockServed (block : List ℕ) (h : WorldGroup) : Type 0 where
   pub digest : digest_of (h.written 0 0) ≡ digest_of block
   pub serves : Served h 0 0
 
@@ -38,5 +38,5 @@ PutInWorld =
     → (c : ClosedSession) × (c.last.group_logs ≡ (put_of block ∷ []) ∷ []) × AreInARow c []
     × ((w : IsInWorld c []) × HoldsBlock block w.site)
     × ((holds : HoldsInWorld c [])
-    × ((h : WorldGroup) → slice_get holds.world.site.groups 0 ≡ Some h → IsServed block h)
+    × ((h : WorldGroup) → slice_get holds.world.site.groups 0 ≡ Some h → IsBlockServed block h)
     × ParitySees block holds.world.site)

@@ -10,7 +10,7 @@ use Rattle.pot_group.specs.Remaining.{HasServed}
 use Rattle.pot_image.specs.Images.{Contents}
 use Rattle.pot_session.specs.Desks.{begun}
 use Rattle.pot_session.specs.Making.{empty_contents}
-use Rattle.pot_promises.specs.Remaining.{HasClosed, HoldsOf, Past}
+use Rattle.pot_promises.specs.Remaining.{HasClosed, HoldsOf, PastSession}
 use Rattle.run_examples.specs.OnePut.{put_of}
 use Rattle.run_examples.specs.Quiet.{small}
 
@@ -28,7 +28,7 @@ left_by block =
 
 -- The next session logged nothing in the group, gave each archive back, and archive 0 lost nothing
 -- in it.
-pub record LogsNothing (block : List ℕ) (x : Past) : Type 0 where
+pub record LogsNothing (block : List ℕ) (x : PastSession) : Type 0 where
   pub first : x.first ≡ begun (left_by block)
   pub closed : HasClosed x
   pub back : x.missing ≡ []
@@ -37,7 +37,7 @@ pub record LogsNothing (block : List ℕ) (x : Past) : Type 0 where
 
 -- Archive 0 holds a block of that digest when it ended, and the slot of the table that it left is
 -- still its own.
-pub record IsStillThere (block : List ℕ) (x : Past) (written : Table) : Type 0 where
+pub record IsStillThere (block : List ℕ) (x : PastSession) (written : Table) : Type 0 where
   pub holds : HoldsOf (x.room.after.means 0) 0 (digest_of block)
   pub served : HasServed written 0 0 (digest_of block) 0
 
@@ -45,7 +45,7 @@ pub record IsStillThere (block : List ℕ) (x : Past) (written : Table) : Type 0
 -- by that of an archive that has served the slot.
 abbrev pub StillThere : Type 0
 StillThere =
-    (block : List ℕ) → IsBlock block → (x : Past) → LogsNothing block x
+    (block : List ℕ) → IsBlock block → (x : PastSession) → LogsNothing block x
     → (x.room.before.means 0).held 0 ≡ Some block
     → HoldsOf (x.room.after.means 0) 0 (digest_of block)
     × ((written : Table) → slice_get x.last.tables 0 ≡ Some written
@@ -54,6 +54,6 @@ StillThere =
 -- And by the law of sessions in a row over an older image, which here is that of the put.
 abbrev pub OlderFinds : Type 0
 OlderFinds =
-    (block : List ℕ) → IsBlock block → (x : Past) → LogsNothing block x
+    (block : List ℕ) → IsBlock block → (x : PastSession) → LogsNothing block x
     → (x.room.before.means 0).held 0 ≡ Some block
     → HoldsOf (x.room.after.means 0) 0 (digest_of block)

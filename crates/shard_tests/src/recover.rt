@@ -9,6 +9,9 @@ use pot_shard::{Shard, blocks_of, encode_shard, random_len};
 use std::alloc::Global;
 use std::process::Abort;
 
+/// The most chains that a call may bear.
+const MOST: u32 = 4_000_000;
+
 /// The highest bytes of a linear congruential sequence from a seed on.
 fn scatter(out: &mut [u8], seed: u64) {
     let mut state = seed;
@@ -20,7 +23,8 @@ fn scatter(out: &mut [u8], seed: u64) {
     }
 }
 
-/// The blocks of a file of five bytes: two fragments, of so many shards each, of which two are needed.
+/// The blocks of a file of five bytes: two fragments, of so many shards each, of which two are
+/// needed.
 fn stored(
     rt: &(impl Abort + Alloc<A = Global>),
     file: &[u8; 5],
@@ -80,8 +84,13 @@ fn parity(a: &Block, b: &Block, c: &Block) -> Block {
 #[test]
 fn two_files_come_back_from_all_blocks(rt: HostRuntime) {
     let (hello, world) = (stored(&rt, b"hello", 1, 3), stored(&rt, b"world", 2, 3));
-    assert!(rt; are(recover(rt.alloc(), &hello, 16), &[object_of(b"hello", 1)]));
-    assert!(rt; are(recover(rt.alloc(), &hello, 15), &[]));
+    assert!(rt;
+        are(
+            recover(rt.alloc(), &hello, 16, MOST),
+            &[object_of(b"hello", 1)]
+        )
+    );
+    assert!(rt; are(recover(rt.alloc(), &hello, 15, MOST), &[]));
     let mut blocks = Vec::from_slice(rt.alloc(), &hello).expect(&rt, "memory");
     blocks.extend_from_slice(&world).expect(&rt, "memory");
     // Three parity blocks decode as a linked ring that does not close, and three mirror a shard.
@@ -98,9 +107,9 @@ fn two_files_come_back_from_all_blocks(rt: HostRuntime) {
     let (one, other) = (object_of(b"hello", 1), object_of(b"world", 2));
     assert!(rt; blocks.len() == 18);
     if one < other {
-        assert!(rt; are(recover(rt.alloc(), &blocks, 16), &[one, other]));
+        assert!(rt; are(recover(rt.alloc(), &blocks, 16, MOST), &[one, other]));
     } else {
-        assert!(rt; are(recover(rt.alloc(), &blocks, 16), &[other, one]));
+        assert!(rt; are(recover(rt.alloc(), &blocks, 16, MOST), &[other, one]));
     }
 }
 
@@ -115,10 +124,15 @@ fn nothing_comes_back_without_a_shard_or_with_one_outside_the_grammar(rt: HostRu
             let mut rest = Vec::from_slice(rt.alloc(), &blocks).expect(&rt, "memory");
             assert!(rt; rest.len() == 6);
             rest[lost] = Block::from_bytes(altered);
-            assert!(rt; are(recover(rt.alloc(), &rest, 16), &[]));
+            assert!(rt; are(recover(rt.alloc(), &rest, 16, MOST), &[]));
             rest.push(blocks[lost]).expect(&rt, "memory");
             assert!(rt; rest.len() == 7);
-            assert!(rt; are(recover(rt.alloc(), &rest, 16), &[object_of(b"hello", 1)]));
+            assert!(rt;
+                are(
+                    recover(rt.alloc(), &rest, 16, MOST),
+                    &[object_of(b"hello", 1)]
+                )
+            );
         }
     }
 }
@@ -149,11 +163,11 @@ fn crowd(rt: &(impl Abort + Alloc<A = Global>), each: u64) -> Vec<Block> {
 fn four_million_chains_are_borne_and_no_more(rt: HostRuntime) {
     let blocks = crowd(&rt, 1_999);
     assert!(rt; blocks.len() == 3_998);
-    assert!(rt; are(recover(rt.alloc(), &blocks, 63), &[]));
+    assert!(rt; are(recover(rt.alloc(), &blocks, 63, MOST), &[]));
     let blocks = crowd(&rt, 2_001);
     assert!(rt; blocks.len() == 4_002);
     assert!(rt;
-        recover(rt.alloc(), &blocks, 63).is_err_and(|fault| fault
+        recover(rt.alloc(), &blocks, 63, MOST).is_err_and(|fault| fault
             == RecoverFault::Wide {
                 chains: 4_000_001,
                 choices: 0
@@ -161,8 +175,24 @@ fn four_million_chains_are_borne_and_no_more(rt: HostRuntime) {
     );
 }
 
-/// The shards of half a million rings of two that do not close: of each, x = 1 is named 32·i and points at 32·i + 16, and
-/// x = 2 the other way round.
+#[test]
+fn as_many_chains_are_borne_as_are_asked_for(rt: HostRuntime) {
+    let blocks = crowd(&rt, 10);
+    assert!(rt; blocks.len() == 20);
+    for (most, are_borne) in [(110, true), (109, false), (0, false)] {
+        assert!(rt; most < MOST);
+        let found = recover(rt.alloc(), &blocks, 63, most);
+        let wide = RecoverFault::Wide {
+            chains: most + 1,
+            choices: 0,
+        };
+        assert_eq!(rt; found.is_ok(), are_borne);
+        assert!(rt; are_borne || found.is_err_and(|fault| fault == wide));
+    }
+}
+
+/// The shards of half a million rings of two that do not close: of each, x = 1 is named 32·i and
+/// points at 32·i + 16, and x = 2 the other way round.
 fn pairs(rt: &(impl Abort + Alloc<A = Global>), count: u64) -> Vec<Block>
     requires { count < 2 ^ 32 }
 {
@@ -190,7 +220,7 @@ fn pairs(rt: &(impl Abort + Alloc<A = Global>), count: u64) -> Vec<Block>
 fn a_million_chains_are_followed_by_their_pointers(rt: HostRuntime) {
     let blocks = pairs(&rt, 500_000);
     assert!(rt; blocks.len() == 1_000_000);
-    assert!(rt; are(recover(rt.alloc(), &blocks, 4), &[]));
+    assert!(rt; are(recover(rt.alloc(), &blocks, 4, MOST), &[]));
 }
 
 /// A block with one byte changed by this difference.
@@ -211,7 +241,7 @@ fn a_wrong_byte_at_any_place_of_a_share_is_borne(rt: HostRuntime) {
         blocks[0] = changed(&first, at, 0x3c);
         assert!(rt; blocks.len() == 8);
         assert!(rt;
-            are(recover_robust(rt.alloc(), &blocks, 16), &[object]),
+            are(recover_robust(rt.alloc(), &blocks, 16, MOST), &[object]),
             "{at}"
         );
     }
@@ -221,9 +251,9 @@ fn a_wrong_byte_at_any_place_of_a_share_is_borne(rt: HostRuntime) {
 fn of_four_shares_one_may_be_wrong_at_a_place(rt: HostRuntime) {
     let object = [object_of(b"hello", 1)];
     let stored = stored(&rt, b"hello", 1, 4);
-    // Two bytes, each by its block, its place there and the difference, and how many objects come back, by the plain
-    // recovery and by the robust one. The first four blocks are the shards of one fragment. The name stands at 8, the
-    // pointer at 16 and the share at 32.
+    // Two bytes, each by its block, its place there and the difference, and how many objects come
+    // back, by the plain recovery and by the robust one. The first four blocks are the shards of
+    // one fragment. The name stands at 8, the pointer at 16 and the share at 32.
     for (a, b, plain, robust) in [
         ((0, 500, 0), (0, 500, 0), 1, 1),
         ((0, 500, 1), (0, 501, 1), 0, 1),
@@ -238,12 +268,12 @@ fn of_four_shares_one_may_be_wrong_at_a_place(rt: HostRuntime) {
         blocks[a.0] = changed(&blocks[a.0], a.1, a.2);
         blocks[b.0] = changed(&blocks[b.0], b.1, b.2);
         assert!(rt;
-            are(recover(rt.alloc(), &blocks, 16), &object[..plain]),
+            are(recover(rt.alloc(), &blocks, 16, MOST), &object[..plain]),
             "{} {}",
             a.1,
             b.1
         );
-        let found = recover_robust(rt.alloc(), &blocks, 16);
+        let found = recover_robust(rt.alloc(), &blocks, 16, MOST);
         assert!(rt; are(found, &object[..robust]), "{} {}", a.1, b.1);
     }
 }
@@ -252,8 +282,8 @@ fn of_four_shares_one_may_be_wrong_at_a_place(rt: HostRuntime) {
 fn two_shards_that_follow_one_another_are_enough(rt: HostRuntime) {
     let object = [object_of(b"hello", 1)];
     let stored = stored(&rt, b"hello", 1, 4);
-    assert!(rt; are(recover_open(rt.alloc(), &stored, 16), &object));
-    assert!(rt; are(recover_open(rt.alloc(), &stored, 15), &[]));
+    assert!(rt; are(recover_open(rt.alloc(), &stored, 16, MOST), &object));
+    assert!(rt; are(recover_open(rt.alloc(), &stored, 15, MOST), &[]));
     // What is left of the first fragment, by places among its four shards, and how many objects
     // come back.
     for (a, b, back) in [
@@ -269,8 +299,8 @@ fn two_shards_that_follow_one_another_are_enough(rt: HostRuntime) {
         assert!(rt; a < 4 && b < 4 && back < 2);
         blocks.push(stored[a]).expect(&rt, "memory");
         blocks.push(stored[b]).expect(&rt, "memory");
-        assert!(rt; are(recover(rt.alloc(), &blocks, 16), &[]), "{a} {b}");
-        let found = recover_open(rt.alloc(), &blocks, 16);
+        assert!(rt; are(recover(rt.alloc(), &blocks, 16, MOST), &[]), "{a} {b}");
+        let found = recover_open(rt.alloc(), &blocks, 16, MOST);
         assert!(rt; are(found, &object[..back]), "{a} {b}");
     }
 }
@@ -281,8 +311,8 @@ fn a_wrong_share_takes_its_own_chains_alone(rt: HostRuntime) {
     let mut blocks = stored(&rt, b"hello", 1, 4);
     assert!(rt; blocks.len() == 8);
     blocks[1] = changed(&blocks[1], 500, 1);
-    assert!(rt; are(recover(rt.alloc(), &blocks, 16), &[]));
-    assert!(rt; are(recover_open(rt.alloc(), &blocks, 16), &object));
+    assert!(rt; are(recover(rt.alloc(), &blocks, 16, MOST), &[]));
+    assert!(rt; are(recover_open(rt.alloc(), &blocks, 16, MOST), &object));
     blocks[3] = changed(&blocks[3], 500, 1);
-    assert!(rt; are(recover_open(rt.alloc(), &blocks, 16), &[]));
+    assert!(rt; are(recover_open(rt.alloc(), &blocks, 16, MOST), &[]));
 }

@@ -4,7 +4,8 @@ use pot_machine::{Column, Cursor, GroupTable};
 use std::alloc::Global;
 use std::test::Fail;
 
-/// The image of one group with one data column and one stripe that `docs/FORMATS.md` prints, of the second format.
+/// The image of one group with one data column and one stripe that `docs/FORMATS.md` prints, of the
+/// second format.
 const PRINTED: [u8; 118] = [
     0x50, 0x53, 0x49, 0x31, 0x00, 0x00, 0x00, 0x02, 0x00, 0x00, 0x00, 0x00, 0x00, 0x00, 0x00, 0x76,
     0x00, 0x00, 0x00, 0x05, 0x01, 0x01, 0x02, 0x01, 0x01, 0x00, 0x01, 0x00, 0x00, 0x00, 0x00, 0x01,
@@ -45,8 +46,9 @@ const EMPTY: [u8; 252] = [
     0xf8, 0xb0, 0xca, 0x9b, 0x7f, 0x4e, 0x43, 0x91, 0x12, 0xd7, 0xa5, 0x08, 0x44, 0x7b, 0xa0, 0x2e,
     0x99, 0x06, 0x97, 0x72, 0x9a, 0x92, 0x92, 0x02, 0x37, 0xc2, 0xcf, 0x9a,
 ];
-/// Two groups with two parity columns, a column that moves, slots of each state, two records, one of them with two splits,
-/// and an entry of each kind in both logs. It was made apart from this crate.
+/// Two groups with two parity columns, a column that moves, slots of each state, two records, one
+/// of them with two splits, and an entry of each kind in both logs. It was made apart from this
+/// crate.
 const FULL: [u8; 1325] = [
     0x50, 0x53, 0x49, 0x31, 0x00, 0x00, 0x00, 0x02, 0x00, 0x00, 0x00, 0x00, 0x00, 0x00, 0x05, 0x2d,
     0x00, 0x00, 0x00, 0x07, 0x02, 0x02, 0x02, 0x01, 0x02, 0x08, 0x02, 0x00, 0x00, 0x00, 0x00, 0x02,
@@ -214,7 +216,8 @@ fn written_again(alloc: Global, bytes: &[u8]) -> Result<Vec<u8>, Fail> {
     Ok(again)
 }
 
-/// The bytes before the trailer, with another byte at a place and more bytes behind, under a right trailer.
+/// The bytes before the trailer, with another byte at a place and more bytes behind, under a right
+/// trailer.
 fn signed(
     alloc: Global,
     bytes: &[u8],
@@ -265,7 +268,8 @@ fn is_as_printed(image: &Image) -> bool {
         && image.index_log.is_empty()
 }
 
-/// Whether the cursor is at the first place, and archives 0 and 1 are homes of the columns, which do not move.
+/// Whether the cursor is at the first place, and archives 0 and 1 are homes of the columns, which
+/// do not move.
 fn has_nothing(table: &GroupTable) -> bool {
     let columns = [
         Column {

@@ -12,7 +12,7 @@ use Rattle.pot_turn.proofs.StretchLemmas.{ascends_bounds}
 use Rattle.pot_turn.proofs.PassLemmas.{pass_took}
 use Rattle.pot_turn.proofs.Jobs.{none_took, none_left, none_both, carries_none, carries_took, carries_left, carries_both, carries_other}
 use Rattle.turn_demo.specs.declared.book.Line.{Line}
-use Rattle.turn_demo.specs.Books.{line, lines_of, by, WroteLine, Wrote}
+use Rattle.turn_demo.specs.Books.{line, lines_of, by, WroteLine, WroteLines}
 
 -- an author's line is its own, and no other's
 by_self : (author number : ℕ) → filter (by author) (line author number ∷ []) ≡ line author number ∷ []
@@ -28,8 +28,8 @@ by_other author other number ne (suc k) e is = absurd (cc is)
 none_fresh : (v : View Line ℕ) (author : ℕ) → stretches_of v ≡ [] → NoneIn (by author) v.seen (stretches_of v)
 none_fresh v author fresh i e is some = absurd (let none = ap (times i) fresh in omega (arith, none, some))
 
-pub wrote_nothing : (v : View Line ℕ) → IsPass v → v.holds ≡ false → stretches_of v ≡ [] → (author count : ℕ) → count ≡ 0 → Wrote author (author + 1) count v v
-wrote_nothing v pass idle fresh author count is = subst (λ n. Wrote author (author + 1) n v v) (sym is) (record {
+pub wrote_nothing : (v : View Line ℕ) → IsPass v → v.holds ≡ false → stretches_of v ≡ [] → (author count : ℕ) → count ≡ 0 → WroteLines author (author + 1) count v v
+wrote_nothing v pass idle fresh author count is = subst (λ n. WroteLines author (author + 1) n v v) (sym is) (record {
   idle = idle;
   parts = refl;
   opened = refl;
@@ -40,7 +40,7 @@ wrote_nothing v pass idle fresh author count is = subst (λ n. Wrote author (aut
 })
 
 -- one line more
-pub wrote_more : (u v w : View Line ℕ) (author n count : ℕ) → count ≡ suc n → IsPass v → Wrote author (author + 1) n u v → WroteLine (line author n) v w → Wrote author (author + 1) count u w
+pub wrote_more : (u v w : View Line ℕ) (author n count : ℕ) → count ≡ suc n → IsPass v → WroteLines author (author + 1) n u v → WroteLine (line author n) v w → WroteLines author (author + 1) count u w
 wrote_more u v w author n count is pass sofar wrote =
     let before = wrote.0 in
     let new = line author n in
@@ -51,8 +51,8 @@ wrote_more u v w author n count is pass sofar wrote =
     let passed : IsPass took = pass_took v pass transition grown in
     let other : (a : ℕ) → a ≢ author → NoneIn (by a) v.seen (stretches_of v) → NoneIn (by a) log (stretches_of (left_view log took)) =
     λ a ne none. none_left (by a) took passed log (new ∷ []) refl (by_other author a n ne) (none_took (by a) v pass transition grown none) in
-    subst (λ (x : View Line ℕ). Wrote author (author + 1) count u x) (sym wrote.1)
-    (subst (λ (k : ℕ). Wrote author (author + 1) k u (left_view log took)) (sym is) (record {
+    subst (λ (x : View Line ℕ). WroteLines author (author + 1) count u x) (sym wrote.1)
+    (subst (λ (k : ℕ). WroteLines author (author + 1) k u (left_view log took)) (sym is) (record {
       idle = refl;
       parts = sofar.parts;
       opened = sofar.opened;
@@ -74,8 +74,8 @@ wrote_more u v w author n count is pass sofar wrote =
 
 -- the authors of both passes
 pub wrote_both : (u w1 w2 : View Line ℕ) (n first middle upto count : ℕ) → first ≤ middle → middle ≤ upto → n < u.parts → IsPass w1 → IsPass w2
-    → Wrote first middle count (cut_view n u) w1 → Wrote middle upto count (new_view n u) w2
-    → StartsWith (longer w1.seen w2.seen) w1.seen → StartsWith (longer w1.seen w2.seen) w2.seen → w2.opened ≡ w1.opened → Wrote first upto count u (both_views w1 w2)
+    → WroteLines first middle count (cut_view n u) w1 → WroteLines middle upto count (new_view n u) w2
+    → StartsWith (longer w1.seen w2.seen) w1.seen → StartsWith (longer w1.seen w2.seen) w2.seen → w2.opened ≡ w1.opened → WroteLines first upto count u (both_views w1 w2)
 wrote_both u w1 w2 n first middle upto count low high fewer pass1 pass2 one two grown1 grown2 same =
     let none : (a : ℕ) → NoneIn (by a) w1.seen (stretches_of w1) → NoneIn (by a) w2.seen (stretches_of w2) → NoneIn (by a) (longer w1.seen w2.seen) (stretches_of (both_views w1 w2)) =
     λ a mine its. none_both (by a) w1 pass1 w2 pass2 grown1 grown2 mine its in
@@ -97,12 +97,12 @@ wrote_both u w1 w2 n first middle upto count low high fewer pass1 pass2 one two 
 
 -- the same of a pass that was split, and joined again
 pub wrote_joined : (u v1 v2 w1 w2 x : View Line ℕ) (n first middle upto count : ℕ) → first ≤ middle → middle ≤ upto → n < u.parts → IsPass w1 → IsPass w2
-    → v1 ≡ cut_view n u → v2 ≡ new_view n u → Wrote first middle count v1 w1 → Wrote middle upto count v2 w2
-    → x ≡ both_views w1 w2 → StartsWith x.seen w1.seen → StartsWith x.seen w2.seen → w2.opened ≡ w1.opened → Wrote first upto count u x
+    → v1 ≡ cut_view n u → v2 ≡ new_view n u → WroteLines first middle count v1 w1 → WroteLines middle upto count v2 w2
+    → x ≡ both_views w1 w2 → StartsWith x.seen w1.seen → StartsWith x.seen w2.seen → w2.opened ≡ w1.opened → WroteLines first upto count u x
 wrote_joined u v1 v2 w1 w2 x n first middle upto count low high fewer pass1 pass2 left given one two joined grown1 grown2 same =
-    subst (Wrote first upto count u) (sym joined)
+    subst (WroteLines first upto count u) (sym joined)
     (wrote_both u w1 w2 n first middle upto count low high fewer pass1 pass2
-    (subst (λ (v : View Line ℕ). Wrote first middle count v w1) left one)
-    (subst (λ (v : View Line ℕ). Wrote middle upto count v w2) given two)
+    (subst (λ (v : View Line ℕ). WroteLines first middle count v w1) left one)
+    (subst (λ (v : View Line ℕ). WroteLines middle upto count v w2) given two)
     (subst (λ (y : View Line ℕ). StartsWith y.seen w1.seen) joined grown1)
     (subst (λ (y : View Line ℕ). StartsWith y.seen w2.seen) joined grown2) same)

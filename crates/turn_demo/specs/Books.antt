@@ -26,7 +26,7 @@ WroteLine new v w =
 
 -- The pass knew v and knows w. In between, each of the authors from `first` on and before `upto`
 -- wrote so many lines, and nobody else wrote one under this pass
-pub record Wrote (first upto count : ℕ) (v w : View Line ℕ) : Type 0 where
+pub record WroteLines (first upto count : ℕ) (v w : View Line ℕ) : Type 0 where
   pub idle : w.holds ≡ false
   pub parts : w.parts ≡ v.parts
   pub opened : w.opened ≡ v.opened

@@ -3,7 +3,7 @@ ghost use Rattle.std.specs.Prelude.{◌≡◌, ◌+◌, ◌*◌, ◌<◌, ℕ, [
 ghost use Rattle.std.specs.Prelude.{length};
 ghost use Rattle.pot_turn.specs.Passes.{view, turn_of, IsPassOf};
 ghost use Rattle.pot_turn.specs.Views.{stretches_of};
-ghost use Rattle.turn_demo.specs.Books.{line, lines_of, by, WroteLine, Wrote};
+ghost use Rattle.turn_demo.specs.Books.{line, lines_of, by, WroteLine, WroteLines};
 
 use crate::book::{Book, Line};
 use pot_turn::{Pass, Turn};
@@ -36,7 +36,7 @@ fn write_lines<R: Wait>(
     requires idle { (view pass).holds ≡ false }
     requires fresh { stretches_of (view pass) ≡ [] }
     ensures own { IfSome result (λ p. IsPassOf turn.now p) }
-    ensures wrote { IfSome result (λ p. Wrote author (author + 1) count (view pass) (view p)) }
+    ensures wrote { IfSome result (λ p. WroteLines author (author + 1) count (view pass) (view p)) }
 {
     for number in 0..count {
         if !write_line(rt, turn, &mut pass, Line { author, number }) {
@@ -60,7 +60,7 @@ fn write_two<R: Threads + Wait + Sync>(
     requires fresh { stretches_of (view pass) ≡ [] }
     requires parts { 1 < (view pass).parts }
     ensures own { IfSome result (λ p. IsPassOf turn.now p) }
-    ensures wrote { IfSome result (λ p. Wrote first (first + 2) count (view pass) (view p)) }
+    ensures wrote { IfSome result (λ p. WroteLines first (first + 2) count (view pass) (view p)) }
 {
     let Ok(other) = turn.split(&mut pass, 1) else {
         unreachable!()
@@ -72,14 +72,14 @@ fn write_two<R: Threads + Wait + Sync>(
                 × (stretches_of (view pass) ≡ []) }
             ensures { IfSome result
                 (λ p. IsPassOf turn.entry.now p
-                × Wrote first (first + 1) count (view pass) (view p)) }
+                × WroteLines first (first + 1) count (view pass) (view p)) }
         { write_lines(rt, turn, pass, first, count) },
         || -> Option<Pass<Book>>
             requires { IsPassOf turn.now other × ((view other).holds ≡ false)
                 × (stretches_of (view other) ≡ []) × (first < 255) }
             ensures { IfSome result
                 (λ p. IsPassOf turn.entry.now p
-                × Wrote (first + 1) (first + 2) count (view other) (view p)) }
+                × WroteLines (first + 1) (first + 2) count (view other) (view p)) }
         { write_lines(rt, turn, other, first + 1, count) },
     );
     let mut mine = mine?;
@@ -107,12 +107,14 @@ pub fn write_four<R: Threads + Wait + Sync>(rt: &R, alloc: Global, count: u32) -
         || -> Option<Pass<Book>>
             requires { IsPassOf turn pass × ((view pass).holds ≡ false)
                 × (stretches_of (view pass) ≡ []) × (1 < (view pass).parts) }
-            ensures { IfSome result (λ p. IsPassOf turn p × Wrote 0 2 count (view pass) (view p)) }
+            ensures { IfSome result (λ p. IsPassOf turn p × WroteLines 0 2 count (view pass)
+                (view p)) }
         { write_two(rt, &turn, pass, 0, count) },
         || -> Option<Pass<Book>>
             requires { IsPassOf turn other × ((view other).holds ≡ false)
                 × (stretches_of (view other) ≡ []) × (1 < (view other).parts) }
-            ensures { IfSome result (λ p. IsPassOf turn p × Wrote 2 4 count (view other) (view p)) }
+            ensures { IfSome result (λ p. IsPassOf turn p × WroteLines 2 4 count (view other)
+                (view p)) }
         { write_two(rt, &turn, other, 2, count) },
     );
     let mut mine = mine?;

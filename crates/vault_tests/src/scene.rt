@@ -5,7 +5,7 @@ ghost use Rattle.pot_bytes.specs.Rack.{IsRack};
 ghost use Rattle.pot_doubles.specs.Archives.{meaning_in};
 ghost use Rattle.pot_group.specs.Group.{view_of};
 ghost use Rattle.pot_shared.specs.Ready.{AreReady};
-ghost use Rattle.pot_shared.specs.Sharing.{IsGroupOf};
+ghost use Rattle.pot_shared.specs.Sharing.{IsRackGroup};
 
 use pot_bytes::{Block, Geometry, Rack};
 use pot_doubles::{Loss, LossyArchive};
@@ -70,7 +70,7 @@ fn member(
     requires fits { IsRack rack.now }
     requires one { rack.now.groups ≡ 1 }
     requires parity { rack.now.parity ≡ 1 }
-    ensures { IfOk result (λ m. IsGroupOf rack.now 0 (view_of meaning_in m.group)) }
+    ensures { IfOk result (λ m. IsRackGroup rack.now 0 (view_of meaning_in m.group)) }
 {
     let Ok(table) = GroupTable::empty(alloc, rack, 0) else {
         return Err(Fail::from("no memory"));

@@ -81,7 +81,8 @@ fn what_follows_from_a_wish(rt: HostRuntime) -> Result<(), Fail> {
     Ok(())
 }
 
-/// Files of so many bytes, and the blocks that they put into each of twelve groups where each of two fragments has three shards.
+/// Files of so many bytes, and the blocks that they put into each of twelve groups where each of
+/// two fragments has three shards.
 const TAKEN: [(u64, [u64; 12]); 4] = [
     (0, [1, 2, 2, 1, 0, 0, 0, 0, 0, 0, 0, 0]),
     (864, [1, 2, 2, 1, 0, 0, 0, 0, 0, 0, 0, 0]),

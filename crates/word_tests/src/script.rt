@@ -156,7 +156,8 @@ fn refuses_what_the_rack_or_a_batch_has_not(rt: HostRuntime) -> Result<(), Fail>
     Ok(())
 }
 
-/// The place in the table of the first reply that is printed otherwise, or counts otherwise as a refusal.
+/// The place in the table of the first reply that is printed otherwise, or counts otherwise as a
+/// refusal.
 fn first_wrong(
     alloc: Global,
     table: &[(Reply, &[u8])],

@@ -263,6 +263,7 @@ fn recovery(archives: u32, stripes: u32, blur: u8, way: Way) -> Recover {
         stripes,
         blur,
         way,
+        bounded: false,
     }
 }
 
@@ -302,6 +303,12 @@ fn recover(rt: HostRuntime) -> Result<(), Fail> {
     for (line, wanted) in good {
         assert_eq!(rt; task_of(alloc, line)?, Some(Task::Recover(wanted)));
     }
+    let line = "recover --archives 20 --bounded yes --stripes 16 --blur 16 --robust yes";
+    let wanted = Recover {
+        bounded: true,
+        ..recovery(20, 16, 16, Way::Robust)
+    };
+    assert_eq!(rt; task_of(alloc, line)?, Some(Task::Recover(wanted)));
     let bad = [
         "recover --stripes 16 --blur 16",
         "recover --archives 20 --blur 16",
@@ -320,6 +327,8 @@ fn recover(rt: HostRuntime) -> Result<(), Fail> {
         "recover --archives 20 --stripes 16 --blur 16 --open true",
         "recover --archives 20 --stripes 16 --blur 16 --open yes --robust yes",
         "recover --archives 20 --stripes 16 --blur 16 --open yes --open yes",
+        "recover --archives 20 --stripes 16 --blur 16 --bounded",
+        "recover --archives 20 --stripes 16 --blur 16 --bounded 1",
         "recover --archives 20 --stripes 16 --blur 16 --seed 00",
     ];
     assert!(rt; none_of(alloc, bad.as_slice())?);

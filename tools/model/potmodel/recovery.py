@@ -7,6 +7,9 @@ from . import field, pieces
 
 MOST = 4000000
 
+# Where the work is bounded, so many chains are followed over so many blocks, by the way.
+BOUNDS = {"rings": (65536, 2), "robust": (4096, 2), "open": (65536, 17)}
+
 
 class Wide(Exception):
     """There are more chains or choices than the limit."""
@@ -146,10 +149,16 @@ def robust_join(shares, need):
 CONTENTS = {"rings": closed_contents, "robust": robust_contents, "open": open_contents}
 
 
-def recover(blocks, blur, way="rings"):
+def most_chains(count, way, is_bounded):
+    """How many chains are followed over so many blocks."""
+    least, each = BOUNDS[way]
+    return min(MOST, least + each * count) if is_bounded else MOST
+
+
+def recover(blocks, blur, way="rings", is_bounded=False):
     """The objects that blocks give, in byte order and each once."""
     shards = shards_of(blocks, blur)
-    if count_chains(shards, way) > MOST:
+    if count_chains(shards, way) > most_chains(len(blocks), way, is_bounded):
         raise Wide()
     closed = set()
     for (need, size), points in by_kind(shards).items():

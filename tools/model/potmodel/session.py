@@ -218,12 +218,12 @@ def work_audit(task, sink, desk):
 
 def recover(task, sink, room):
     """Recovery from the slots of some archives, each taken, read and given back before the next."""
-    _, archives, stripes, blur, way = task
+    _, archives, stripes, blur, way, is_bounded = task
     blocks = []
     for number in range(archives):
         blocks += read_archive(number, stripes, room)
     try:
-        objects = recovery.recover(blocks, blur, way)
+        objects = recovery.recover(blocks, blur, way, is_bounded)
     except recovery.Wide:
         raise End(11, b"too wide\n")
     status, texts = recovery.listing(objects)

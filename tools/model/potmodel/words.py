@@ -88,14 +88,16 @@ def read_run(words):
 
 
 def read_recover(words):
-    """`recover`: numbers of archives and stripes, a blur, and the way: by rings, by some with wrong shares, or by open chains."""
-    reader = Reader(words, {"archives", "stripes", "blur", "robust", "open"})
+    """`recover`: numbers of archives and stripes, a blur, the way: by rings, by some with wrong shares, or by open chains; and
+    whether the work is bounded."""
+    reader = Reader(words, {"archives", "stripes", "blur", "robust", "open", "bounded"})
     archives, stripes, blur = reader.number("archives", 1, 512), reader.number("stripes", 1, 4096), reader.number("blur", 0, 63)
     asked = [reader.values.get(name, "no") for name in ("robust", "open")]
     ways = {("no", "no"): "rings", ("yes", "no"): "robust", ("no", "yes"): "open"}
-    if not reader.is_fine or tuple(asked) not in ways:
+    bounded = reader.values.get("bounded", "no")
+    if not reader.is_fine or tuple(asked) not in ways or bounded not in ("yes", "no"):
         return None
-    return "recover", archives, stripes, blur, ways[tuple(asked)]
+    return "recover", archives, stripes, blur, ways[tuple(asked)], bounded == "yes"
 
 
 def read_drill(words):

@@ -1,7 +1,7 @@
 //! The lines that name a group.
 
 ghost use Rattle.std.specs.Prelude.{◌≡◌, ◌≢◌, ℕ, [], ◌∷◌, MatchOption, decimal};
-ghost use Rattle.pot_script.specs.Commands.{IsGroup};
+ghost use Rattle.pot_script.specs.Commands.{IsGroupNumber};
 ghost use Rattle.pot_script.specs.Lines.{ReadsLine};
 ghost use Rattle.pot_script.specs.declared.kind.Kind.TheVariants as kinds;
 
@@ -28,8 +28,8 @@ pub fn read_repair(words: Words, rack: &Rack) -> Option<Command>
 // The one word that is left, the number of one of the rack's groups.
 fn read_group(mut words: Words, rack: &Rack) -> Option<u8>
     ensures { MatchOption result
-        ((group : ℕ) → IsGroup rack.now group → words.entry ≢ decimal group ∷ [])
-        (λ group. IsGroup rack.now group × (words.entry ≡ decimal group ∷ [])) }
+        ((group : ℕ) → IsGroupNumber rack.now group → words.entry ≢ decimal group ∷ [])
+        (λ group. IsGroupNumber rack.now group × (words.entry ≡ decimal group ∷ [])) }
 {
     let group = words.next_number(255)? as u8;
     words.end()?;

@@ -9,8 +9,8 @@ use crate::command::Command;
 use crate::words::Words;
 use pot_bytes::{Geometry, Rack};
 
-/// `renew NAME K M N BLUR`: the name, and how its file is split anew, in K fragments with a threshold of
-/// M out of N shards and a blur of BLUR bits.
+/// `renew NAME K M N BLUR`: the name, and how its file is split anew, in K fragments with a
+/// threshold of M out of N shards and a blur of BLUR bits.
 pub fn read_renew(mut words: Words, rack: &Rack) -> Option<Command>
     ensures { ReadsLine rack.now kinds.Renew words.entry result }
 {

@@ -12,7 +12,8 @@ ghost use Rattle.pot_object.specs.Objects.{head_at};
 ghost use Rattle.pot_outside.specs.Accounts.{Faults, transition};
 ghost use Rattle.pot_recover.specs.Choices.{IsSomeObject};
 ghost use Rattle.pot_recover.specs.Fronts.{has_front};
-ghost use Rattle.pot_session.specs.Listing.{Lists, Puts, count_line, file_line, file_text};
+ghost use Rattle.pot_session.specs.Listing.{ListsObjects, PutsText, count_line, file_line};
+ghost use Rattle.pot_session.specs.Listing.{file_text};
 ghost use Rattle.pot_session.specs.Listing.{first_gap, front_at, has_earlier, has_partial};
 ghost use Rattle.pot_session.specs.Listing.{is_partial_at, least_of, listing, object_at};
 ghost use Rattle.pot_session.specs.Listing.{object_line, part_in, part_of, partial_line, parts_of};
@@ -194,7 +195,7 @@ fn partial_line(alloc: Global, object: &[u8; 928], piece: u32) -> Result<Vec<u8>
 
 /// Writes a text.
 fn put<K: Sink>(text: &[u8], sink: &mut K) -> Result<(), ListFault>
-    ensures puts { Puts (transition K.account sink.old sink.new) text.now result }
+    ensures puts { PutsText (transition K.account sink.old sink.new) text.now result }
     ensures cause { Faults K.account sink.old sink.new
         (IsErrOf result ListFault.SinkFault) }
 {
@@ -207,7 +208,7 @@ fn put<K: Sink>(text: &[u8], sink: &mut K) -> Result<(), ListFault>
 /// Writes a line that there was memory for.
 fn put_line<K: Sink>(line: Result<Vec<u8>, AllocError>, sink: &mut K) -> Result<(), ListFault>
     ensures puts { (text : List ℕ) → IfOk line (λ v. v.items ≡ text)
-        → Puts (transition K.account sink.old sink.new) text result }
+        → PutsText (transition K.account sink.old sink.new) text result }
     ensures cause { Faults K.account sink.old sink.new
         (IsErrOf result ListFault.SinkFault) }
 {
@@ -219,7 +220,7 @@ fn put_line<K: Sink>(line: Result<Vec<u8>, AllocError>, sink: &mut K) -> Result<
 
 /// Writes the line of each object.
 fn put_objects<K: Sink>(alloc: Global, found: &Recovered, sink: &mut K) -> Result<(), ListFault>
-    ensures puts { Puts (transition K.account sink.old sink.new)
+    ensures puts { PutsText (transition K.account sink.old sink.new)
         (flat_map object_line found.now) result }
     ensures cause { Faults K.account sink.old sink.new
         (IsErrOf result ListFault.SinkFault) }
@@ -240,7 +241,7 @@ fn put_part<K: Sink>(
     piece: u32,
     sink: &mut K,
 ) -> Result<(), ListFault>
-    ensures puts { Puts (transition K.account sink.old sink.new)
+    ensures puts { PutsText (transition K.account sink.old sink.new)
         (part_of (least_of found.now object.now piece)) result }
     ensures cause { Faults K.account sink.old sink.new
         (IsErrOf result ListFault.SinkFault) }
@@ -253,7 +254,7 @@ fn put_part<K: Sink>(
 
 /// Writes the parts of all pieces.
 fn put_parts<K: Sink>(found: &Recovered, object: &[u8; 928], sink: &mut K) -> Result<(), ListFault>
-    ensures puts { Puts (transition K.account sink.old sink.new)
+    ensures puts { PutsText (transition K.account sink.old sink.new)
         (parts_of found.now object.now) result }
     ensures cause { Faults K.account sink.old sink.new
         (IsErrOf result ListFault.SinkFault) }
@@ -274,7 +275,7 @@ fn put_whole<K: Sink>(
     object: &[u8; 928],
     sink: &mut K,
 ) -> Result<(), ListFault>
-    ensures puts { Puts (transition K.account sink.old sink.new)
+    ensures puts { PutsText (transition K.account sink.old sink.new)
         (file_line object.now ++ parts_of found.now object.now ++ codes "\n") result }
     ensures cause { Faults K.account sink.old sink.new
         (IsErrOf result ListFault.SinkFault) }
@@ -296,7 +297,7 @@ fn put_file<K: Sink>(
     object: &[u8; 928],
     sink: &mut K,
 ) -> Result<bool, ListFault>
-    ensures puts { Puts (transition K.account sink.old sink.new)
+    ensures puts { PutsText (transition K.account sink.old sink.new)
         (file_text found.now object.now) result }
     ensures partial { IfOk result (λ partial. partial ≡ is_some (first_gap found.now object.now)) }
     ensures cause { Faults K.account sink.old sink.new
@@ -324,7 +325,7 @@ fn put_first<K: Sink>(
 ) -> Result<bool, ListFault>
     requires objects { (object : List ℕ) → IsIn found.now object → IsSomeObject object }
     requires within { place < length found.now }
-    ensures puts { Puts (transition K.account sink.old sink.new)
+    ensures puts { PutsText (transition K.account sink.old sink.new)
         (text_at found.now place) result }
     ensures partial { IfOk result (λ partial. partial ≡ is_partial_at found.now place) }
     ensures cause { Faults K.account sink.old sink.new
@@ -339,7 +340,7 @@ fn put_first<K: Sink>(
 /// Writes each file at its first object. Answers whether some file is partial.
 fn put_files<K: Sink>(alloc: Global, found: &Recovered, sink: &mut K) -> Result<bool, ListFault>
     requires { (object : List ℕ) → IsIn found.now object → IsSomeObject object }
-    ensures puts { Puts (transition K.account sink.old sink.new)
+    ensures puts { PutsText (transition K.account sink.old sink.new)
         (flat_map (text_at found.now) (places_in found.now)) result }
     ensures partial { IfOk result (λ partial. partial ≡ has_partial found.now) }
     ensures cause { Faults K.account sink.old sink.new
@@ -358,7 +359,7 @@ fn put_files<K: Sink>(alloc: Global, found: &Recovered, sink: &mut K) -> Result<
 /// Writes the whole listing. Answers whether some file is partial.
 fn put_listing<K: Sink>(alloc: Global, found: &Recovered, sink: &mut K) -> Result<bool, ListFault>
     requires { (object : List ℕ) → IsIn found.now object → IsSomeObject object }
-    ensures puts { Puts (transition K.account sink.old sink.new)
+    ensures puts { PutsText (transition K.account sink.old sink.new)
         (listing found.now) result }
     ensures partial { IfOk result (λ partial. partial ≡ has_partial found.now) }
     ensures cause { Faults K.account sink.old sink.new
@@ -379,7 +380,7 @@ fn put_listing<K: Sink>(alloc: Global, found: &Recovered, sink: &mut K) -> Resul
 /// there, or the least piece that is missing.
 pub(crate) fn list_objects<K: Sink>(alloc: Global, found: &Recovered, sink: &mut K) -> Status
     requires { (object : List ℕ) → IsIn found.now object → IsSomeObject object }
-    ensures lists { Lists (transition K.account sink.old sink.new) found.now
+    ensures lists { ListsObjects (transition K.account sink.old sink.new) found.now
         result }
     ensures cause { Faults K.account sink.old sink.new (result ≡ Status.SinkFault) }
 {

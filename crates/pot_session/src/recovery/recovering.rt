@@ -4,10 +4,12 @@ ghost use Rattle.std.specs.Prelude.{◌≡◌, ◌≢◌, ◌<◌, ◌≤◌, �
 ghost use Rattle.std.specs.Prelude.{IfErr, IsErr, IsErrOf, IsOk, ◌⊎◌, false, length};
 ghost use Rattle.pot_outside.specs.Accounts.{Faults, transition};
 ghost use Rattle.pot_outside.specs.Rooms.{IsHome, StaysAt, room_transition};
-ghost use Rattle.pot_outside.specs.Counts.{Caused, Rose};
-ghost use Rattle.pot_session.specs.Recovering.{Adds, AreHeldIn, FailsOr, FindsObjects, Gathers};
-ghost use Rattle.pot_session.specs.Recovering.{GiveObjects, GiveTooMany, HasFailed, IsRecovery};
-ghost use Rattle.pot_session.specs.Recovering.{Recovers, SomeFailed, WasRead, WereRead};
+ghost use Rattle.pot_outside.specs.Counts.{Caused};
+ghost use Rattle.pot_session.specs.Recovering.{AddsSlot, AreHeldIn, FailsOr, FindsObjects};
+ghost use Rattle.pot_session.specs.Recovering.{GathersBlocks};
+ghost use Rattle.pot_session.specs.Recovering.{GiveObjects, GiveTooMany, ArchiveFailed, IsLost};
+ghost use Rattle.pot_session.specs.Recovering.{IsRecovery, Recovers, SomeFailed, WasRead, WereRead};
+ghost use Rattle.pot_session.specs.Recovering.{most_chains};
 
 use crate::ending::refusing::refuse;
 use crate::ending::status::Status;
@@ -30,7 +32,7 @@ fn read_slot<A: Archive>(
 ) -> Result<(), RoomFault>
     ensures adds { IsTrue A.account.tells
         → OnOk result
-        (Adds slot (A.account.meaning archive.old) (A.account.meaning archive.new)
+        (AddsSlot slot (A.account.meaning archive.old) (A.account.meaning archive.new)
         blocks.old.items blocks.new.items) }
     ensures read { IsTrue A.account.tells
         → WasRead (A.account.meaning archive.old) (A.account.meaning archive.new) }
@@ -60,7 +62,7 @@ fn read_slots<A: Archive>(
 ) -> Result<(), RoomFault>
     ensures gathers { IsTrue A.account.tells
         → OnOk result
-        (Gathers stripes (A.account.meaning archive.old) (A.account.meaning archive.new)
+        (GathersBlocks stripes (A.account.meaning archive.old) (A.account.meaning archive.new)
         blocks.old.items blocks.new.items) }
     ensures read { IsTrue A.account.tells
         → WasRead (A.account.meaning archive.old) (A.account.meaning archive.new) }
@@ -105,11 +107,12 @@ fn read_archive<R: Room>(
     requires { (R.meaning room.old).out number ≡ false }
     ensures gathers { IsTrue R.A.account.tells
         → OnOk result
-        (Gathers stripes ((R.meaning room.old).means number) ((R.meaning room.new).means number)
+        (GathersBlocks stripes ((R.meaning room.old).means number)
+        ((R.meaning room.new).means number)
         blocks.old.items blocks.new.items) }
     ensures read { IsTrue R.A.account.tells
-        → (Rose (R.meaning room.old).failures (R.meaning room.new).failures → ⊥)
-        → WasRead ((R.meaning room.old).means number) ((R.meaning room.new).means number) }
+        → WasRead ((R.meaning room.old).means number) ((R.meaning room.new).means number)
+        ⊎ IsLost (R.meaning room.old) (R.meaning room.new) number }
     ensures length { length blocks.new.items ≤ length blocks.old.items + stripes }
     ensures home { (R.meaning room.new).out number ≡ false }
     ensures others { (n : ℕ) → n ≢ number
@@ -117,7 +120,7 @@ fn read_archive<R: Room>(
     ensures cause { Caused (R.meaning room.old).faults (R.meaning room.new).faults
         (IsErrOf result RoomFault.Failed) }
     ensures own { FailsOr (room_transition R.A.account R.meaning room.old room.new)
-        (HasFailed ((R.meaning room.old).means number) ((R.meaning room.new).means number))
+        (ArchiveFailed ((R.meaning room.old).means number) ((R.meaning room.new).means number))
         (IsErrOf result RoomFault.Failed) }
 {
     match room.take(number) {
@@ -171,22 +174,42 @@ fn read_archives<R: Room>(
     Ok(blocks)
 }
 
-/// The objects that these blocks give, by this way.
-fn objects_in(
-    alloc: Global,
-    blocks: &[Block],
-    bits: u8,
-    way: Way,
-) -> Result<Recovered, RecoverFault>
-    requires bits { bits ≤ 63 }
-    requires few { length blocks.now < 2 ^ 32 }
-    ensures found { IfOk result (λ objects. GiveObjects way blocks.now bits objects) }
-    ensures wide { IfErr result (λ fault. GiveTooMany way blocks.now bits fault) }
+/// How many chains are followed over so many blocks. A robust one takes some milliseconds, and each
+/// other one a part of one.
+fn most_chains(task: &Recover, count: usize) -> u32
+    requires few { count < 2 ^ 32 }
+    ensures bound { result ≡ most_chains task.now count }
+    ensures most { result ≤ 4000000 }
 {
-    match way {
-        Way::Rings => recover(alloc, blocks, bits),
-        Way::Robust => recover_robust(alloc, blocks, bits),
-        Way::Chains => recover_open(alloc, blocks, bits),
+    let count = count as u64;
+    let bound = match task.way {
+        Way::Rings => 65_536 + 2 * count,
+        Way::Robust => 4096 + 2 * count,
+        Way::Chains => 65_536 + 17 * count,
+    };
+    if task.bounded {
+        bound.min(4_000_000) as u32
+    } else {
+        4_000_000
+    }
+}
+
+/// The objects that these blocks give, by the way of the task.
+fn objects_in(alloc: Global, blocks: &[Block], task: &Recover) -> Result<Recovered, RecoverFault>
+    requires bits { task.now.blur ≤ 63 }
+    requires few { length blocks.now < 2 ^ 32 }
+    ensures found { IfOk result (λ objects.
+        GiveObjects (most_chains task.now (length blocks.now)) task.now.way blocks.now
+        task.now.blur objects) }
+    ensures wide { IfErr result (λ fault.
+        GiveTooMany (most_chains task.now (length blocks.now)) task.now.way blocks.now
+        task.now.blur fault) }
+{
+    let (bits, most) = (task.blur, most_chains(task, blocks.len()));
+    match task.way {
+        Way::Rings => recover(alloc, blocks, bits, most),
+        Way::Robust => recover_robust(alloc, blocks, bits, most),
+        Way::Chains => recover_open(alloc, blocks, bits, most),
     }
 }
 
@@ -211,7 +234,7 @@ fn find_objects<R: Room>(alloc: Global, task: &Recover, room: &mut R) -> Result<
         (IsErrOf result Stop.RoomFault) }
 {
     match read_archives(alloc, task, room) {
-        Ok(blocks) => match objects_in(alloc, &blocks, task.blur, task.way) {
+        Ok(blocks) => match objects_in(alloc, &blocks, task) {
             Ok(objects) => Ok(objects),
             Err(RecoverFault::Wide { .. }) => Err(Stop::TooWide),
             Err(RecoverFault::NoMemory) => Err(Stop::NoMemory),

@@ -7,7 +7,7 @@ ghost use Rattle.pot_outside.specs.Counts.{Caused};
 ghost use Rattle.pot_shelves.specs.Shelves.{numbers_of};
 ghost use Rattle.pot_shared.specs.Hands.{AreApart, AreMeant};
 ghost use Rattle.pot_commands.specs.Holding.{AreOut, Untouched};
-ghost use Rattle.pot_session.specs.Giving.{GivesBack, IsUnlent, IsUnopened};
+ghost use Rattle.pot_session.specs.Giving.{GivesArchivesBack, IsUnlent, IsRoomUnopened};
 
 use pot_outside::{Failed, Room, RoomFault, Shelf};
 
@@ -40,7 +40,7 @@ pub(crate) fn take_all<R: Room>(
     ensures unlent { IsErrOf result RoomFault.Failed
         → IsUnlent (room_transition R.A.account R.meaning room.old room.new) }
     ensures unopened { IsErrOf result RoomFault.NoMemory
-        → IsUnopened (room_transition R.A.account R.meaning room.old room.new) }
+        → IsRoomUnopened (room_transition R.A.account R.meaning room.old room.new) }
 {
     for number in numbers {
         match room.take(*number) {
@@ -84,7 +84,7 @@ pub(crate) fn give_all<R: Room>(room: &mut R, hand: &mut Vec<Shelf<R::A>>) -> Re
     ensures space { vec_capacity hand.new ≡ vec_capacity hand.old }
     ensures untouched { Untouched (numbers_of hand.old.items) (R.meaning room.old)
         (R.meaning room.new) }
-    ensures back { GivesBack R.A.account hand.old.items (R.meaning room.old)
+    ensures back { GivesArchivesBack R.A.account hand.old.items (R.meaning room.old)
         (R.meaning room.new) result }
     ensures cause { Caused (R.meaning room.old).faults (R.meaning room.new).faults (IsErr result) }
 {

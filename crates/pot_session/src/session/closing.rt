@@ -7,7 +7,7 @@ ghost use Rattle.pot_outside.specs.Counts.{Caused};
 ghost use Rattle.pot_shelves.specs.Shelves.{numbers_of};
 ghost use Rattle.pot_commands.specs.Holding.{AreOut, Untouched};
 ghost use Rattle.pot_session.specs.Desks.{IsKeepStop};
-ghost use Rattle.pot_session.specs.Giving.{GivesBack};
+ghost use Rattle.pot_session.specs.Giving.{GivesArchivesBack};
 ghost use Rattle.pot_session.specs.Opened.{CanClose, IsStartOf, Start};
 ghost use Rattle.pot_session.specs.Serving.{Closes, IsCloseStop, first_failure};
 
@@ -108,7 +108,7 @@ fn give_hand<R: Room>(room: &mut R, hand: Vec<Shelf<R::A>>) -> Result<(), Failed
     ensures home { IsHome (R.meaning room.new) }
     ensures untouched { Untouched (numbers_of hand.items) (R.meaning room.old)
         (R.meaning room.new) }
-    ensures back { GivesBack R.A.account hand.items (R.meaning room.old)
+    ensures back { GivesArchivesBack R.A.account hand.items (R.meaning room.old)
         (R.meaning room.new) result }
     ensures cause { Caused (R.meaning room.old).faults (R.meaning room.new).faults (IsErr result) }
 {

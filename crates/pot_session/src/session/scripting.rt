@@ -2,7 +2,7 @@
 
 ghost use Rattle.std.specs.Prelude.{◌≡◌, [], IsTrue, IfOk, OnOk, IfErr, IsErrOf};
 ghost use Rattle.pot_outside.specs.Accounts.{Faults, transition};
-ghost use Rattle.pot_session.specs.Commands.{IsRead, RefusesScript};
+ghost use Rattle.pot_session.specs.Commands.{IsScriptRead, RefusesScript};
 
 use crate::ending::stop::Stop;
 use crate::intake::{IntakeFault, read_out};
@@ -22,7 +22,7 @@ pub(crate) fn read_steps<S: Source>(
     source: &mut S,
 ) -> Result<Vec<Step>, Stop>
     ensures script { IfOk result
-        (λ steps. IsRead rack.now (transition S.account source.old source.new) steps.items) }
+        (λ steps. IsScriptRead rack.now (transition S.account source.old source.new) steps.items) }
     ensures read { IsTrue S.account.tells
         → OnOk result ((S.account.meaning source.new).held ≡ []) }
     ensures bad { IfErr result (RefusesScript rack.now (transition S.account source.old source.new)) }

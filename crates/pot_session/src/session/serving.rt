@@ -1,27 +1,26 @@
 //! A session from the taking of its archives to its close.
 
 ghost use Rattle.std.specs.Prelude.{◌≡◌, ◌<◌, ◌≤◌, ◌+◌, ◌++◌, ◌^◌, IsTrue, IfOk, OnOk, OnErr};
-ghost use Rattle.std.specs.Prelude.{IsErr, IsErrOf, Some, length, flat_map};
+ghost use Rattle.std.specs.Prelude.{IsErr, IsErrOf, length, flat_map};
 ghost use Rattle.std.specs.List.{AllByRecursion};
 ghost use Rattle.pot_outside.specs.Accounts.{Faults, transition, whole_transition};
 ghost use Rattle.pot_outside.specs.Rooms.{IsHome, room_transition};
 ghost use Rattle.pot_outside.specs.Counts.{Caused};
 ghost use Rattle.pot_bytes.specs.Rack.{log_bound};
 ghost use Rattle.pot_image.specs.Images.{contents};
-ghost use Rattle.pot_image.specs.Spelling.{image_bytes};
 ghost use Rattle.pot_image.specs.Rules.{FitsTogether};
 ghost use Rattle.pot_machine.specs.Table.{archives_in};
 ghost use Rattle.pot_shelves.specs.Shelves.{numbers_of};
 ghost use Rattle.pot_script.specs.Steps.{IsWholeStep};
 ghost use Rattle.pot_shared.specs.Groups.{AreLow, AreTakenAt};
 ghost use Rattle.pot_shared.specs.Hands.{AreApart, AreMeant};
-ghost use Rattle.pot_shared.specs.Remains.{IsFresh, HasSpace};
+ghost use Rattle.pot_shared.specs.Remains.{AreRemainsFresh, HasSpace};
 ghost use Rattle.pot_commands.specs.Ends.{next_job};
 ghost use Rattle.pot_commands.specs.Taking.{asked_by};
 ghost use Rattle.pot_commands.specs.Holding.{AreOut, Untouched};
-ghost use Rattle.pot_session.specs.Giving.{GivesBack, IsUnlent, IsUnopened};
+ghost use Rattle.pot_session.specs.Giving.{GivesArchivesBack, IsUnlent, IsRoomUnopened};
 ghost use Rattle.pot_session.specs.Opened.{IsOpenedWith};
-ghost use Rattle.pot_session.specs.Serving.{Serves, IsEnd, status_after, status_by};
+ghost use Rattle.pot_session.specs.Serving.{HoldsBegin, Serves, IsEnd, status_after, status_by};
 
 use crate::ending::status::Status;
 use crate::ending::stop::Stop;
@@ -34,7 +33,7 @@ use pot_image::Image;
 use pot_machine::GroupTable;
 use pot_outside::{Desk, Failed, Gate, Room, RoomFault, Sink};
 use pot_script::Step;
-use pot_shared::{Remains, Vault, numbers_in};
+use pot_shared::{Openers, Remains, Vault, numbers_in};
 use std::alloc::Global;
 use std::sync::Wait;
 use std::thread::Threads;
@@ -58,7 +57,7 @@ fn take_archives<R: Room>(
     ensures taken { IfOk result (λ p. numbers_of p.hand.items ≡ flat_map archives_in tables.now) }
     ensures meant { IsTrue R.A.account.tells
         → IfOk result (λ p. AreMeant R.A.account.meaning (R.meaning room.old).means p.hand.items) }
-    ensures fresh { IfOk result IsFresh }
+    ensures fresh { IfOk result AreRemainsFresh }
     ensures space { IfOk result (HasSpace (length tables.now) 512) }
     ensures few { IfOk result (λ p. length p.hand.items ≤ 512) }
     ensures out { OnOk result (AreOut (R.meaning room.new) (flat_map archives_in tables.now)) }
@@ -73,7 +72,7 @@ fn take_archives<R: Room>(
     ensures unlent { IsErrOf result RoomFault.Failed
         → IsUnlent (room_transition R.A.account R.meaning room.old room.new) }
     ensures unopened { IsErrOf result RoomFault.NoMemory
-        → IsUnopened (room_transition R.A.account R.meaning room.old room.new) }
+        → IsRoomUnopened (room_transition R.A.account R.meaning room.old room.new) }
 {
     let Ok(numbers) = numbers_in(alloc, tables) else {
         return Err(RoomFault::NoMemory);
@@ -99,7 +98,7 @@ fn give_back<R: Room>(room: &mut R, remains: Remains<R::A>) -> Result<(), Failed
     ensures home { IsHome (R.meaning room.new) }
     ensures untouched { Untouched (numbers_of remains.hand.items) (R.meaning room.old)
         (R.meaning room.new) }
-    ensures back { GivesBack R.A.account remains.hand.items (R.meaning room.old)
+    ensures back { GivesArchivesBack R.A.account remains.hand.items (R.meaning room.old)
         (R.meaning room.new) result }
     ensures cause { Caused (R.meaning room.old).faults (R.meaning room.new).faults (IsErr result) }
     ensures own { Caused (R.meaning room.old).failures (R.meaning room.new).failures
@@ -111,16 +110,18 @@ fn give_back<R: Room>(room: &mut R, remains: Remains<R::A>) -> Result<(), Failed
     given
 }
 
-/// Takes the archives of the tables of an image from the room, and opens a vault over them.
+/// Takes the archives of the tables of an image from the room, and opens a vault over them, whose
+/// groups are started at once on so many threads at most.
 ///
 /// # Errors
 /// `Failed` only where the room itself failed, or `NoMemory`. No archive is out then, and those
 /// that the room took back are as they were, but for losses that they counted.
-fn open_session<R: Room>(
-    alloc: Global,
+fn open_session<R: Room, X: Threads + Sync>(
+    openers: &Openers<'_, X>,
     image: Image,
     room: &mut R,
 ) -> Result<Opened<R::A>, RoomFault>
+    requires workers { 0 < openers.now.workers }
     requires together { FitsTogether (contents image) }
     requires home { IsHome (R.meaning room.old) }
     ensures opened { IfOk result (IsOpenedWith (contents image)) }
@@ -139,7 +140,7 @@ fn open_session<R: Room>(
     ensures unlent { IsErrOf result RoomFault.Failed
         → IsUnlent (room_transition R.A.account R.meaning room.old room.new) }
     ensures unopened { IsErrOf result RoomFault.NoMemory
-        → IsUnopened (room_transition R.A.account R.meaning room.old room.new) }
+        → IsRoomUnopened (room_transition R.A.account R.meaning room.old room.new) }
 {
     let Image {
         session,
@@ -149,11 +150,11 @@ fn open_session<R: Room>(
         group_logs: _,
         index_log: _,
     } = image;
-    let mut remains = match take_archives(alloc, &tables, room) {
+    let mut remains = match take_archives(openers.alloc, &tables, room) {
         Ok(remains) => remains,
         Err(fault) => return Err(fault),
     };
-    match Vault::open(alloc, &rack, tables, records, &mut remains) {
+    match Vault::open(openers, &rack, tables, records, &mut remains) {
         Ok((vault, passes, spaces)) => Ok(Opened {
             session,
             rack,
@@ -185,7 +186,7 @@ pub(crate) fn serve<K: Sink, R: Room, D: Desk, W: Gate, X: Threads + Wait + Sync
     requires worked { AllByRecursion (IsWholeStep image.rack) steps.now }
     requires home { IsHome (R.meaning room.old) }
     requires kept { IsTrue D.account.tells
-        → (D.account.meaning desk.old).held ≡ Some (image_bytes (contents image)) }
+        → HoldsBegin (D.account.meaning desk.old).held (contents image) }
     ensures home { IsHome (R.meaning room.new) }
     ensures untouched { Untouched (flat_map archives_in image.tables.items ++ asked_by steps.now)
         (R.meaning room.old) (R.meaning room.new) }
@@ -201,7 +202,12 @@ pub(crate) fn serve<K: Sink, R: Room, D: Desk, W: Gate, X: Threads + Wait + Sync
     ensures desk { Faults D.account desk.old desk.new (result ≡ Status.DeskFault) }
 {
     let host = &staff.host;
-    let mut opened = match open_session(host.alloc, image, room) {
+    let openers = Openers {
+        rt: host.rt,
+        alloc: host.alloc,
+        workers: staff.workers,
+    };
+    let mut opened = match open_session(&openers, image, room) {
         Ok(opened) => opened,
         Err(RoomFault::Failed) => return Status::RoomFault,
         Err(RoomFault::NoMemory) => return Status::NoMemory,

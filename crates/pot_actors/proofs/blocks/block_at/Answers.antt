@@ -1,4 +1,4 @@
-use Rattle.std.proofs.Common.{◌≡◌, ◌<◌, ◌*◌, ◌%◌, ℕ, length, get_or, ap, ap₂, sym, subst, ◌∙◌, arith}
+use Rattle.std.proofs.Common.{◌≡◌, ◌<◌, ◌*◌, ◌%◌, ℕ, length, get_or, ap, ap₂, sym, ◌∙◌, arith}
 use Rattle.pot_world.proofs.DataLemmas.{written_all}
 use Rattle.pot_actors.proofs.BlockLemmas.{block_is, piece_within, pos_mul}
 use Rattle.pot_actors.proofs.blocks.block_at.Goals as goal

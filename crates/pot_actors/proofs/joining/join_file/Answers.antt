@@ -1,4 +1,4 @@
-use Rattle.std.proofs.Common.{◌≡◌, ◌++◌, ℕ, length, take, drop, ap, refl, ◌∙◌, arith, length-drop}
+use Rattle.std.proofs.Common.{◌≡◌, ◌++◌, ℕ, length, drop, ap, refl, ◌∙◌, arith, length-drop}
 use Rattle.std.proofs.lemmas.List.{take_all}
 use Rattle.pot_object.specs.Pieces.{pieces_of}
 use Rattle.pot_actors.proofs.PieceLemmas.{gives, has_gathered, pieces_more, pieces_none}

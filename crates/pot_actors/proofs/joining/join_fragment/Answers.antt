@@ -1,7 +1,7 @@
 use Rattle.std.proofs.Common.{◌≡◌, ◌<◌, ◌≤◌, ℕ, ◌∙◌, length, sym, ap, subst, arith, nat_eq}
 use Rattle.std.specs.List.{All, IsDistinct}
 use Rattle.pot_split.specs.Threshold.{IsJoin}
-use Rattle.pot_actors.specs.Joins.{Shared, shared_to}
+use Rattle.pot_actors.specs.Joins.{Shared}
 use Rattle.pot_actors.proofs.JoinLemmas.{fragment_joined, not_gathered, points_distinct, points_few, points_not_zero}
 use Rattle.pot_actors.proofs.joining.join_fragment.Goals as goal
 

@@ -1,4 +1,4 @@
-use Rattle.std.proofs.Common.{◌≡◌, ◌+◌, ◌*◌, ◌/◌, ◌++◌, ℕ, length, take, drop, ap, sym, refl, subst, ◌∙◌, arith, length-append, length-drop}
+use Rattle.std.proofs.Common.{◌≡◌, ◌+◌, ◌*◌, ◌/◌, ◌++◌, ℕ, length, drop, ap, sym, refl, subst, ◌∙◌, arith, length-append, length-drop}
 use Rattle.std.proofs.lemmas.List.{take_all}
 use Rattle.pot_split.specs.Secrecy.{meaning}
 use Rattle.pot_actors.proofs.PieceLemmas.{fragments_more, fragments_none, piece_joined}

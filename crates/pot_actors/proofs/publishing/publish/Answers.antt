@@ -5,7 +5,7 @@ use Rattle.pot_index.specs.Entries.{bringing}
 use Rattle.pot_index.specs.Index.{same_name}
 use Rattle.pot_index.specs.Records.{mark_of, renewed}
 use Rattle.pot_world.specs.World.{split_of}
-use Rattle.pot_actors.specs.Ends.{EndsBy}
+use Rattle.pot_actors.specs.Ends.{EndsByEntry}
 use Rattle.pot_actors.specs.Ledgers.{names_of}
 use Rattle.pot_actors.specs.Splits.{under_way_of}
 use Rattle.pot_actors.proofs.EndLemmas.{may_not_absent, may_not_often, may_renew, renewal_ends, stands}
@@ -38,6 +38,6 @@ returns-in-Ok-publish_renewal c =
       may_renew (names_of c.args.names.now) u c.if-not-split.false r e (omega (arith, c.if-as_slice-ge15.false, ap length c.as_slice.ensures.value))
           (omega (arith, c.if-len-count_blocks.false, c.len.ensures, c.count_blocks.ensures.value, c.args.split.now.places.ok)),
       renewal_ends c.args.actor c.args.names.now c.publish_renewal.new.names c.args.ended.now.items c.publish_renewal.new.ended.items u r c.if-not-split.false e
-          (subst (λ (z : Record). EndsBy (bringing (entry.Renew c.args.actor u.name (mark_of (renewed z (split_of u)))) (renewed z (split_of u))) c.args.names.now c.args.ended.now.items u c.publish_renewal.new.names c.publish_renewal.new.ended.items)
+          (subst (λ (z : Record). EndsByEntry (bringing (entry.Renew c.args.actor u.name (mark_of (renewed z (split_of u)))) (renewed z (split_of u))) c.args.names.now c.args.ended.now.items u c.publish_renewal.new.names c.publish_renewal.new.ended.items)
           (sym c.index.ensures) (c.in-Ok-publish_renewal.ensures r)),
     )

@@ -8,11 +8,11 @@ use Rattle.std.proofs.lemmas.Slice.Eq.{slice_eq-Decides}
 use Rattle.hex.specs.Hex.{decode_sized, encode_lower, lower_digits}
 use Rattle.hex.proofs.HexLemmas.{decode_of-encode_lower, decode_sized-twice, length-encode_with}
 use Rattle.pot_bytes.specs.declared.digest.Digest.{Digest}
-use Rattle.pot_client.specs.ReplyWords.{IsDigest}
+use Rattle.pot_client.specs.ReplyWords.{IsByteDigest}
 use Rattle.pot_client.proofs.digests.read_digest.Goals as goal
 
 -- the text of a digest is read as its bytes
-decodes : (word : List ℕ) (d : Digest) → IsDigest d → word ≡ encode_lower d.bytes → decode_sized word 32 ≡ Ok d.bytes
+decodes : (word : List ℕ) (d : Digest) → IsByteDigest d → word ≡ encode_lower d.bytes → decode_sized word 32 ≡ Ok d.bytes
 decodes word d is e =
     ap (λ (t : List ℕ). decode_sized t 32) e ∙ decode_sized-twice (encode_lower d.bytes) 32 (length-encode_with lower_digits d.bytes ∙ ap (λ n. 2 * n) is.0)
     ∙ decode_of-encode_lower d.bytes is.1

@@ -1,6 +1,6 @@
 use Rattle.std.proofs.Common.{sym, ◌∙◌}
 use Rattle.pot_script.proofs.CommandLemmas.{first_words}
-use Rattle.pot_client.specs.ReplyTexts.{IsLineOf}
+use Rattle.pot_client.specs.ReplyTexts.{IsReplyLineOf}
 use Rattle.pot_client.specs.declared.kind.ReplyKind.TheVariants as kinds
 use Rattle.pot_client.proofs.KindLemmas.{only_lost}
 use Rattle.pot_client.proofs.rare.read_lost.Goals as goal
@@ -8,7 +8,7 @@ use Rattle.pot_client.proofs.rare.read_lost.Goals as goal
 pub returns-in_err-fragment : goal.returns-in_err-fragment
 returns-in_err-fragment c =
     rw c.from_residual-in_err-fragment.ensures (λ r at.
-    only_lost (λ d. IsLineOf kinds.Lost c.args.words d → ⊥) (λ name piece fragment have need is.
+    only_lost (λ d. IsReplyLineOf kinds.Lost c.args.words d → ⊥) (λ name piece fragment have need is.
     let one = (first_words _ _ _ _ (sym c.in_ok-name.ensures.1 ∙ is.words_are)).1 in
     let two = (first_words _ _ _ _ (sym c.in_ok-piece.ensures.1 ∙ one)).1 in
     c.in_err-fragment.ensures fragment _ is.is.2 two) r at.kind_is at)
@@ -16,7 +16,7 @@ returns-in_err-fragment c =
 pub returns-in_err-have : goal.returns-in_err-have
 returns-in_err-have c =
     rw c.from_residual-in_err-have.ensures (λ r at.
-    only_lost (λ d. IsLineOf kinds.Lost c.args.words d → ⊥) (λ name piece fragment have need is.
+    only_lost (λ d. IsReplyLineOf kinds.Lost c.args.words d → ⊥) (λ name piece fragment have need is.
     let one = (first_words _ _ _ _ (sym c.in_ok-name.ensures.1 ∙ is.words_are)).1 in
     let two = (first_words _ _ _ _ (sym c.in_ok-piece.ensures.1 ∙ one)).1 in
     let three = (first_words _ _ _ _ (sym c.in_ok-fragment.ensures.1 ∙ two)).1 in
@@ -25,7 +25,7 @@ returns-in_err-have c =
 pub returns-in_err-need : goal.returns-in_err-need
 returns-in_err-need c =
     rw c.from_residual-in_err-need.ensures (λ r at.
-    only_lost (λ d. IsLineOf kinds.Lost c.args.words d → ⊥) (λ name piece fragment have need is.
+    only_lost (λ d. IsReplyLineOf kinds.Lost c.args.words d → ⊥) (λ name piece fragment have need is.
     let one = (first_words _ _ _ _ (sym c.in_ok-name.ensures.1 ∙ is.words_are)).1 in
     let two = (first_words _ _ _ _ (sym c.in_ok-piece.ensures.1 ∙ one)).1 in
     let three = (first_words _ _ _ _ (sym c.in_ok-fragment.ensures.1 ∙ two)).1 in

@@ -31,6 +31,7 @@ returns-in-Ok-answer_plain g c =
       worked = c.answer_plain.ensures.worked;
       blinds = c.answer_plain.ensures.blinds;
       says = c.in-Ok-answer_plain.ensures.says;
+      asked = λ e. absurd (cc);
       used = used_more c.args.job (g.R.Room.meaning c.args.room.now) (g.R.Room.meaning c.args.room.now) c.args.passes.now.groups c.answer_plain.new.passes.groups c.answer_plain.ensures.worked.groups
           (c.answer_plain.ensures.can.ready.of.0 ∙ sym c.requires.can.ready.of.0) (λ n. refl) c.requires.used;
       took = took_none _ _ (asks c.args.command.now) _ _ _ _ (λ n. refl) (λ n. refl)
@@ -47,6 +48,7 @@ returns-in-Err g c =
       worked = c.answer_plain.ensures.worked;
       blinds = c.answer_plain.ensures.blinds;
       says = c.in-Err.ensures.says;
+      asked = λ e. absurd (cc);
       used = used_more c.args.job (g.R.Room.meaning c.args.room.now) (g.R.Room.meaning c.args.room.now) c.args.passes.now.groups c.answer_plain.new.passes.groups c.answer_plain.ensures.worked.groups
           (c.answer_plain.ensures.can.ready.of.0 ∙ sym c.requires.can.ready.of.0) (λ n. refl) c.requires.used;
       took = took_none _ _ (asks c.args.command.now) _ _ _ _ (λ n. refl) (λ n. refl)

@@ -8,7 +8,7 @@ use Rattle.pot_commands.proofs.TakingLemmas.{took_on, used_on}
 use Rattle.pot_commands.proofs.batching.answer_together.Goals as goal
 
 pub returns-in-Err-clause-says : goal.returns-in-Err-clause-says
-returns-in-Err-clause-says g c = moves_stop _ _ _ _ _ _ _ _ c.in-Err.unanswered c.in-Err.ensures.begun.1
+returns-in-Err-clause-says g c = moves_stop _ _ _ _ _ _ _ _ c.in-Err.unanswered (λ q. c.in-Err.ensures.asked (cc q)) c.in-Err.ensures.begun.1
 
 pub work_begun-requires-clause-filled : goal.work_begun-requires-clause-filled
 work_begun-requires-clause-filled g c κs within = filled_stays _ _ _ c.in-Ok.ensures.begun.stays c.requires.filled

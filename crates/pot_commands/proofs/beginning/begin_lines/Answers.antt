@@ -68,3 +68,6 @@ returns-clause-took g c =
     let end = c.loop-index.auto.index-end in
     let stop = c.loop-index-test.false in
     all_asked _ _ _ _ _ _ _ _ _ _ _ c.loop-index.invariant.beginning (omega (arith, end, stop))
+
+pub returns-in-Err-clause-asked : goal.returns-in-Err-clause-asked
+returns-in-Err-clause-asked g c failed = (c.index-lines-index.result, (c.loop-index.index, c.loop-index-test.true, sym c.index-lines-index.is), c.in-Err.ensures.asked (cc failed))

@@ -24,7 +24,7 @@ returns-in-One-clause-stays g c =
 
 pub returns-in-One-clause-says : goal.returns-in-One-clause-says
 returns-in-One-clause-says g c =
-    one_says c.args.step.now c.in-One.command c.in-One.is _ _ _ c.args.job _ _ c.answer.ensures.worked c.answer.result c.answer.ensures.says
+    one_says c.args.step.now c.in-One.command c.in-One.is _ _ _ c.args.job _ _ c.answer.ensures.worked c.answer.result c.answer.ensures.asked c.answer.ensures.says
 
 pub returns-in-One-clause-took : goal.returns-in-One-clause-took
 returns-in-One-clause-took g c =

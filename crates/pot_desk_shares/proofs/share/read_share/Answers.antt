@@ -1,7 +1,7 @@
 use Rattle.std.proofs.Common.{◌≡◌, ◌≤◌, ◌+◌, ◌-◌, ℕ, List, length, take, drop, IsTrue, false, refl, ap, sym, subst, ◌∙◌, arith, length-drop}
 use Rattle.std.proofs.lemmas.List.{length-take-le}
 use Rattle.pot_bytes.specs.Lists.{AreBytes}
-use Rattle.pot_desk_shares.specs.Shares.{body_of, head_at, IsHead, IsShare}
+use Rattle.pot_desk_shares.specs.Shares.{body_of, head_at, IsShareHead, IsShare}
 use Rattle.pot_desk_shares.specs.declared.share.ShareHead.{ShareHead}
 use Rattle.pot_desk_shares.proofs.FormatLemmas.{body_of-share, framed-share, head_at-share, length-share_bytes, IsShare-from_parts}
 use Rattle.pot_desk_shares.proofs.share.read_share.Goals as goal
@@ -25,7 +25,7 @@ returns-then-is_framed c =
     let small : AreBytes bytes = λ i. (c.type_inv.bytes i).fits in
     let long : 64 ≤ length bytes = omega (arith, c.if-bytes-lt64.false) in
     let here = c.head_in-head.ensures in
-    let ok : IsHead (head_at bytes) = subst IsHead here (c.if-is_head.ensures.0 refl) in
+    let ok : IsShareHead (head_at bytes) = subst IsShareHead here (c.if-is_head.ensures.0 refl) in
     let whole : length (body_of bytes) ≡ (head_at bytes).length + 32 =
     omega (arith, c.if-body-head.true, ap length (between bytes), ap (λ (z : ShareHead). z.length) here, long_between bytes long) in
     subst (λ (z : ShareHead). IsShare z (take (length bytes - 32 - 32) (drop 32 bytes)) bytes) (sym here)
@@ -45,6 +45,6 @@ returns-else-is_head c h body is =
           let middle : length (body_of bytes) ≡ h.length + 32 = ap length (body_of-share h body bytes is) ∙ is.whole in
           absurd (omega (arith, w.if-body-head.false, middle, ap length (between bytes), long_between bytes long, ap (λ (z : ShareHead). z.length) same))
       | else-is_head-via-else-is_head w ↦
-          let yes : IsTrue false = w.if-is_head.ensures.1 (subst IsHead same is.head) in
+          let yes : IsTrue false = w.if-is_head.ensures.1 (subst IsShareHead same is.head) in
           cc
     ]

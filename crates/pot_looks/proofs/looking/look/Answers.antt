@@ -1,12 +1,12 @@
 use Rattle.std.proofs.Common.{◌+◌, arith, ap, sym, subst}
-use Rattle.pot_looks.specs.Looks.{IsLooked, Sight}
+use Rattle.pot_looks.specs.Looks.{IsLooked, ArchiveSight}
 use Rattle.pot_looks.proofs.LookLemmas.{few, one_more}
 use Rattle.pot_looks.specs.declared.looking.Looked.{Looked}
 use Rattle.pot_looks.proofs.looking.look.Goals as goal
 
 pub loop-stripe-preserved : goal.loop-stripe-preserved
 loop-stripe-preserved c =
-    let v : Sight = record { table = c.args.table.now; column = c.args.column; archive = c.args.archive; bytes = c.args.bytes.now } in
+    let v : ArchiveSight = record { table = c.args.table.now; column = c.args.column; archive = c.args.archive; bytes = c.args.bytes.now } in
     let r = c.loop-stripe.looked in
     let seen = c.see.result in
     let is = c.with-looked.ensures in

@@ -1,5 +1,5 @@
 use Rattle.std.proofs.Common.{◌≡◌, ◌+◌, ◌-◌, ◌++◌, ℕ, List, take, drop, arith, add-one, ap, sym, subst, ◌∙◌}
-use Rattle.pot_object.specs.Objects.{head_at, part_length, IsHead}
+use Rattle.pot_object.specs.Objects.{head_at, part_length, IsObjectHead}
 use Rattle.pot_object.specs.Assembly.{object_at, part_at}
 use Rattle.pot_object.proofs.AssemblyLemmas.{whole_object}
 use Rattle.pot_object.proofs.assembly.join_parts.Goals as goal
@@ -7,7 +7,7 @@ use Rattle.pot_object.proofs.assembly.join_parts.Goals as goal
 pub part_len-end-requires : goal.part_len-end-requires
 part_len-end-requires c =
     let head = c.head_in.ensures ∙ ap head_at (whole_object c.args.objects.now c.loop-number.number) in
-    subst IsHead (sym head) (c.requires.heads c.loop-number.number (omega arith))
+    subst IsObjectHead (sym head) (c.requires.heads c.loop-number.number (omega arith))
 
 pub loop-number-preserved : goal.loop-number-preserved
 loop-number-preserved c =

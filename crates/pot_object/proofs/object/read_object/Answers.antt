@@ -1,5 +1,5 @@
 use Rattle.std.proofs.Common.{◌≡◌, IsTrue, false, arith, sym, subst, refl, ap, ◌∙◌}
-use Rattle.pot_object.specs.Objects.{head_bytes, part_length, IsHead}
+use Rattle.pot_object.specs.Objects.{head_bytes, part_length, IsObjectHead}
 use Rattle.pot_object.proofs.ReadLemmas.{head_at-object, head_bytes-head_at, sealed-object, zeros-object, IsObject-from_parts, zeros_there, zeros_as_read}
 use Rattle.pot_object.proofs.object.read_object.Goals as goal
 use Rattle.pot_object.proofs.object.read_object.Goals.{else-is_sealed-via-then-is_sealed+else-is_zeros, else-is_sealed-via-else-is_sealed}
@@ -7,7 +7,7 @@ use Rattle.pot_object.proofs.object.read_object.Goals.{else-is_sealed-via-then-i
 pub returns-then-not-is_head : goal.returns-then-not-is_head
 returns-then-not-is_head c h is =
     let same : h ≡ c.head_in-head.result = sym (head_at-object h c.args.bytes.now is) ∙ sym c.head_in-head.ensures in
-    let yes : IsTrue false = c.if-not-is_head.ensures.1 (subst IsHead same is.head) in
+    let yes : IsTrue false = c.if-not-is_head.ensures.1 (subst IsObjectHead same is.head) in
     cc
 
 pub returns-then-is_zeros : goal.returns-then-is_zeros

@@ -20,5 +20,5 @@ returns-in-Err-replace-clause-told g c = λ told holds.
       c.args.image,
       holds,
       omega (arith, c.requires.some, ap length c.requires.all),
-      subst (λ bytes. MayLeave (g.D.Desk.account.meaning c.args.desk.now).held bytes (g.D.Desk.account.meaning c.replace.new.self).held) (c.deref-in-Ok.ensures.value ∙ c.in-Ok.ensures.bytes) (c.in-Err-replace.ensures.told told),
+      subst (λ bytes. MayLeave (g.D.Desk.account.meaning c.args.desk.now).held.now bytes (g.D.Desk.account.meaning c.replace.new.self).held.now) (c.deref-in-Ok.ensures.value ∙ c.in-Ok.ensures.bytes) (c.in-Err-replace.ensures.told told),
     )

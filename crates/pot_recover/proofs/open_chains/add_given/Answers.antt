@@ -4,7 +4,7 @@ use Rattle.pot_chains.specs.Listed.{IsIn}
 use Rattle.pot_chains.proofs.ListedLemmas.{in_get_or}
 use Rattle.pot_recover.specs.Groups.{shards_at, parts_of}
 use Rattle.pot_recover.specs.OpenScopes.{IsGivenAmong}
-use Rattle.pot_recover.specs.Rings.{Closes}
+use Rattle.pot_recover.specs.Rings.{ClosesRing}
 use Rattle.pot_recover.proofs.OpenLemmas.{among_more}
 use Rattle.pot_recover.proofs.open_chains.add_given.Goals as goal
 
@@ -23,7 +23,7 @@ loop-chain-preserved c =
     let P = parts_of c.args.window.now.bits c.args.window.now.parts.items in
     among_more P c.args.chains.now c.loop-chain.chain-index c.chain-item.result c.args.found.now.items c.loop-chain.found.items c.add_open.new.found.items
     c.loop-chain-test.true c.loop-chain.invariant
-    (subst (λ (chain : List ℕ). (x : List ℕ) → IsIn c.add_open.new.found.items x ↔ (IsIn c.loop-chain.found.items x ⊎ Closes (shards_at P chain) x))
+    (subst (λ (chain : List ℕ). (x : List ℕ) → IsIn c.add_open.new.found.items x ↔ (IsIn c.loop-chain.found.items x ⊎ ClosesRing (shards_at P chain) x))
     c.chain-item.is c.in_ok-add_open.ensures)
 
 pub returns : goal.returns

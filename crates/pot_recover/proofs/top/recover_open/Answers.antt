@@ -1,4 +1,4 @@
-use Rattle.std.proofs.Common.{◌≡◌, ◌↔◌, inl, ℕ, List, map, refl, sym, subst, lit<}
+use Rattle.std.proofs.Common.{◌≡◌, ◌↔◌, inl, ℕ, List, map, refl, sym, subst, arith, ◌-◌}
 use Rattle.std.proofs.lemmas.Result.{on_ok_weaker, IfErr-weaker}
 use Rattle.pot_chains.specs.Listed.{IsIn}
 use Rattle.pot_shard.specs.declared.shard.Shard.{Shard}
@@ -32,7 +32,7 @@ from_contents-requires-clause-contents c =
     let same = same_here blocks bits now c.in-Ok.held.items c.deref.ensures.value c.in-Ok.ensures.each in
     let holdable = holdable_here blocks bits now c.in-Ok.held.items c.deref.ensures.value c.in-Ok.ensures.each c.in-Ok.ensures.bytes in
     open_grammar blocks bits c.in-Ok-open_contents.contents.items
-    (found_open blocks bits (map (shard_of bits) now) same c.open_contents.new.count c.in-Ok-open_contents.contents.items c.in-Ok-open_contents.ensures.searched)
+    (found_open blocks bits (map (shard_of bits) now) same c.first_count-first.result c.open_contents.new.count c.in-Ok-open_contents.contents.items c.in-Ok-open_contents.ensures.searched)
 
 pub returns-in-Ok-open_contents-clause-objects : goal.returns-in-Ok-open_contents-clause-objects
 returns-in-Ok-open_contents-clause-objects c =
@@ -41,7 +41,7 @@ returns-in-Ok-open_contents-clause-objects c =
     let now = c.deref.result.now in
     let same = same_here blocks bits now c.in-Ok.held.items c.deref.ensures.value c.in-Ok.ensures.each in
     let holdable = holdable_here blocks bits now c.in-Ok.held.items c.deref.ensures.value c.in-Ok.ensures.each c.in-Ok.ensures.bytes in
-    let closed = found_open blocks bits (map (shard_of bits) now) same c.open_contents.new.count c.in-Ok-open_contents.contents.items c.in-Ok-open_contents.ensures.searched in
+    let closed = found_open blocks bits (map (shard_of bits) now) same c.first_count-first.result c.open_contents.new.count c.in-Ok-open_contents.contents.items c.in-Ok-open_contents.ensures.searched in
     if_ok_both c.from_contents.result _ _ _ (λ objects each order. are_recovered blocks bits c.in-Ok-open_contents.contents.items closed objects each order)
     c.from_contents.ensures.objects c.from_contents.ensures.order
 
@@ -52,10 +52,10 @@ returns-in-Ok-open_contents-clause-within c =
     let now = c.deref.result.now in
     let same = same_here blocks bits now c.in-Ok.held.items c.deref.ensures.value c.in-Ok.ensures.each in
     let holdable = holdable_here blocks bits now c.in-Ok.held.items c.deref.ensures.value c.in-Ok.ensures.each c.in-Ok.ensures.bytes in
-    let closed = found_open blocks bits (map (shard_of bits) now) same c.open_contents.new.count c.in-Ok-open_contents.contents.items c.in-Ok-open_contents.ensures.searched in
-    let chains = chains_counted blocks bits (map (shard_of bits) now) same c.open_contents.new.count c.in-Ok-open_contents.contents.items c.in-Ok-open_contents.ensures.searched
-    c.in-Ok-open_contents.ensures.within in
-    on_ok_weaker c.from_contents.result (λ few. are_within blocks bits c.in-Ok-open_contents.contents.items closed c.open_contents.new.count chains c.in-Ok-open_contents.ensures.within few)
+    let closed = found_open blocks bits (map (shard_of bits) now) same c.first_count-first.result c.open_contents.new.count c.in-Ok-open_contents.contents.items c.in-Ok-open_contents.ensures.searched in
+    let chains = chains_counted blocks bits (map (shard_of bits) now) same c.args.most c.first_count-first.result c.open_contents.new.count c.in-Ok-open_contents.contents.items c.in-Ok-open_contents.ensures.searched
+    c.first_count-first.ensures c.in-Ok-open_contents.ensures.within in
+    on_ok_weaker c.from_contents.result (λ few. are_within blocks bits c.in-Ok-open_contents.contents.items closed c.args.most (c.open_contents.new.count - c.first_count-first.result) chains (let sum = c.first_count-first.ensures in let few = c.in-Ok-open_contents.ensures.within in omega (arith, sum, few)) few)
     c.from_contents.ensures.within
 
 pub returns-in-Ok-open_contents-clause-wide : goal.returns-in-Ok-open_contents-clause-wide
@@ -65,11 +65,11 @@ returns-in-Ok-open_contents-clause-wide c =
     let now = c.deref.result.now in
     let same = same_here blocks bits now c.in-Ok.held.items c.deref.ensures.value c.in-Ok.ensures.each in
     let holdable = holdable_here blocks bits now c.in-Ok.held.items c.deref.ensures.value c.in-Ok.ensures.each c.in-Ok.ensures.bytes in
-    let closed = found_open blocks bits (map (shard_of bits) now) same c.open_contents.new.count c.in-Ok-open_contents.contents.items c.in-Ok-open_contents.ensures.searched in
-    let chains = chains_counted blocks bits (map (shard_of bits) now) same c.open_contents.new.count c.in-Ok-open_contents.contents.items c.in-Ok-open_contents.ensures.searched
-    c.in-Ok-open_contents.ensures.within in
+    let closed = found_open blocks bits (map (shard_of bits) now) same c.first_count-first.result c.open_contents.new.count c.in-Ok-open_contents.contents.items c.in-Ok-open_contents.ensures.searched in
+    let chains = chains_counted blocks bits (map (shard_of bits) now) same c.args.most c.first_count-first.result c.open_contents.new.count c.in-Ok-open_contents.contents.items c.in-Ok-open_contents.ensures.searched
+    c.first_count-first.ensures c.in-Ok-open_contents.ensures.within in
     IfErr-weaker c.from_contents.result _ _
-    (λ fault wide. are_too_wide blocks bits c.in-Ok-open_contents.contents.items closed c.open_contents.new.count fault chains c.in-Ok-open_contents.ensures.within wide)
+    (λ fault wide. are_too_wide blocks bits c.in-Ok-open_contents.contents.items closed c.args.most (c.open_contents.new.count - c.first_count-first.result) fault chains (let sum = c.first_count-first.ensures in let few = c.in-Ok-open_contents.ensures.within in omega (arith, sum, few)) wide)
     c.from_contents.ensures.wide
 
 pub returns-in-Err-Wide-clause-wide : goal.returns-in-Err-Wide-clause-wide
@@ -79,4 +79,4 @@ returns-in-Err-Wide-clause-wide c =
     let now = c.deref.result.now in
     let same = same_here blocks bits now c.in-Ok.held.items c.deref.ensures.value c.in-Ok.ensures.each in
     let holdable = holdable_here blocks bits now c.in-Ok.held.items c.deref.ensures.value c.in-Ok.ensures.each c.in-Ok.ensures.bytes in
-    (chains_wide blocks bits (map (shard_of bits) now) same (c.in-Err-Wide.ensures.wide c.in-Err-Wide.field-0-is), inl (lit< tt, refl))
+    (chains_wide blocks bits (map (shard_of bits) now) same c.args.most c.first_count-first.result c.first_count-first.ensures (c.in-Err-Wide.ensures.wide c.in-Err-Wide.field-0-is), inl (omega (arith), refl))

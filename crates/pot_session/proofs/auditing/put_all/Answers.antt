@@ -1,11 +1,10 @@
 use Rattle.std.proofs.Common.{inl, inr, ◌≡◌, ◌++◌, ◌||◌, List, ap, ◌∙◌, subst}
-use Rattle.std.specs.Prelude.{Bool, Result, Ok, Err}
+use Rattle.std.specs.Prelude.{Bool, Ok, Err}
 use Rattle.pot_outside.specs.Accounts.{transition}
 use Rattle.pot_index.specs.declared.record.Record.{Record}
 use Rattle.pot_audit.specs.declared.loose.Loose.{Loose}
-use Rattle.pot_session.specs.declared.recovery.listing.ListFault.{ListFault}
 use Rattle.pot_session.specs.Audits.{PutsAudit, are_some, audit_text, has_bare, loose_lines, loose_of}
-use Rattle.pot_session.specs.Listing.{Puts}
+use Rattle.pot_session.specs.Listing.{PutsText}
 use Rattle.pot_session.proofs.ListingLemmas.{begun_behind, begun_nothing, written_behind}
 use Rattle.pot_session.proofs.auditing.put_all.Goals as goal
 
@@ -32,7 +31,7 @@ returns-in-Ok-put_loose-clause-puts g c =
       it.1,
       ap (λ b. b || c.in-Ok-put_loose.some) it.2 ∙ ap (λ b. has_bare it.0 || b) (c.in-Ok-put_loose.ensures.some ∙ ap are_some columns),
       λ told. written_behind _ middle _ (audit_text it.0) (loose_lines (loose_of c.args.task.now c.args.image.now)) (it.3 told)
-          (subst (λ (xs : List Loose). Puts (transition g.K.Sink.account c.put_audit.new.sink c.put_loose.new.sink) (loose_lines xs) (Ok c.in-Ok-put_loose.some)) columns c.in-Ok-put_loose.ensures.puts told),
+          (subst (λ (xs : List Loose). PutsText (transition g.K.Sink.account c.put_audit.new.sink c.put_loose.new.sink) (loose_lines xs) (Ok c.in-Ok-put_loose.some)) columns c.in-Ok-put_loose.ensures.puts told),
     )
 
 pub returns-clause-puts : goal.returns-clause-puts
@@ -44,5 +43,5 @@ returns-clause-puts g c =
       it.0,
       it.1,
       λ told. begun_behind _ middle _ (audit_text it.0) (loose_lines (loose_of c.args.task.now c.args.image.now)) (it.3 told)
-          (subst (λ (xs : List Loose). Puts {T = Bool} (transition g.K.Sink.account c.put_audit.new.sink c.put_loose.new.sink) (loose_lines xs) (Err c.in-Err-put_loose.fault)) columns c.in-Err-put_loose.ensures.puts told),
+          (subst (λ (xs : List Loose). PutsText {T = Bool} (transition g.K.Sink.account c.put_audit.new.sink c.put_loose.new.sink) (loose_lines xs) (Err c.in-Err-put_loose.fault)) columns c.in-Err-put_loose.ensures.puts told),
     )

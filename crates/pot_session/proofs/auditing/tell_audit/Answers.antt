@@ -4,7 +4,7 @@ use Rattle.pot_outside.specs.Accounts.{transition}
 use Rattle.pot_audit.specs.declared.spot.Spot.{Spot}
 use Rattle.pot_audit.specs.Exposure.{AreSpots}
 use Rattle.pot_session.specs.declared.recovery.listing.ListFault.TheVariants as fault
-use Rattle.pot_session.specs.Audits.{PutsAll, loose_of, spots_of}
+use Rattle.pot_session.specs.Audits.{PutsWholeAudit, loose_of, spots_of}
 use Rattle.pot_session.proofs.AuditLemmas.{none_audited, spots_fit}
 use Rattle.pot_session.proofs.auditing.tell_audit.Goals as goal
 
@@ -24,7 +24,7 @@ pub returns-in-Err-SinkFault-clause-answers : goal.returns-in-Err-SinkFault-clau
 returns-in-Err-SinkFault-clause-answers g c =
     inr (
       fault.SinkFault,
-      subst (λ (spots : List Spot). PutsAll (transition g.K.Sink.account c.args.sink.now c.put_all.new.sink) c.args.image.now.rack spots c.args.image.now.records.items (loose_of c.args.task.now c.args.image.now) (Err fault.SinkFault))
+      subst (λ (spots : List Spot). PutsWholeAudit (transition g.K.Sink.account c.args.sink.now c.put_all.new.sink) c.args.image.now.rack spots c.args.image.now.records.items (loose_of c.args.task.now c.args.image.now) (Err fault.SinkFault))
           (c.deref.ensures.value ∙ c.in-Ok.ensures) c.in-Err-SinkFault.ensures.puts,
       inl refl,
     )
@@ -33,7 +33,7 @@ pub returns-clause-answers : goal.returns-clause-answers
 returns-clause-answers g c =
     inr (
       fault.NoMemory,
-      subst (λ (spots : List Spot). PutsAll (transition g.K.Sink.account c.args.sink.now c.put_all.new.sink) c.args.image.now.rack spots c.args.image.now.records.items (loose_of c.args.task.now c.args.image.now) (Err fault.NoMemory))
+      subst (λ (spots : List Spot). PutsWholeAudit (transition g.K.Sink.account c.args.sink.now c.put_all.new.sink) c.args.image.now.rack spots c.args.image.now.records.items (loose_of c.args.task.now c.args.image.now) (Err fault.NoMemory))
           (c.deref.ensures.value ∙ c.in-Ok.ensures) c.in-Err-NoMemory.ensures.puts,
       inr refl,
     )

@@ -1,17 +1,18 @@
-use Rattle.std.proofs.Common.{ℕ, List, Option, true, refl, ◌∙◌}
+use Rattle.std.proofs.Common.{true, refl, ◌∙◌}
 use Rattle.pot_outside.specs.Accounts.{Content, transition_by}
+use Rattle.pot_outside.specs.Desks.{Images}
 use Rattle.pot_outside.specs.Rooms.{RoomState}
 use Rattle.pot_doubles.specs.declared.desk.MemDesk.{MemDesk}
 use Rattle.pot_doubles.specs.declared.room.MemRoom.{MemRoom}
-use Rattle.pot_doubles.specs.Desks.{desk_calls, image_of}
+use Rattle.pot_doubles.specs.Desks.{desk_calls, image_of, images_of}
 use Rattle.pot_doubles.specs.Rooms.{failures_of, is_out, lent_of, means_in, room_calls}
 use Rattle.pot_doubles.specs.Streams.{left_of, written_to}
 use Rattle.pot_session.proofs.GenerateLemmas.{image_made, is_generated, meant_empty}
 use Rattle.pot_session.proofs.generating.run_in_memory.Goals as goal
 
 -- what a desk and a room in memory mean
-abbrev content : MemDesk → Content (Option (List ℕ))
-content d = record { held = image_of d; faults = (desk_calls d).faults }
+abbrev content : MemDesk → Content Images
+content d = record { held = images_of d; faults = (desk_calls d).faults }
 
 abbrev lending : MemRoom → RoomState
 lending r = record {

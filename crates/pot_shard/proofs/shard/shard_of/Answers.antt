@@ -1,5 +1,5 @@
 use Rattle.std.proofs.Common.{◌≡◌, IsTrue, false, sym, subst, refl, ap, ◌∙◌}
-use Rattle.pot_shard.specs.Shards.{shard_bytes, HasWidths, IsFramed, IsShard}
+use Rattle.pot_shard.specs.Shards.{shard_bytes, HasWidths, HasShardFrame, IsShard}
 use Rattle.pot_shard.proofs.ShardLemmas.{shard_at-block, shard_bytes-shard_at, HasWidths-shard_at, IsFramed-shard_bytes}
 use Rattle.pot_shard.proofs.shard.shard_of.Goals as goal
 use Rattle.pot_shard.proofs.shard.shard_of.Goals.{else-is_framed-via-then-is_framed+else-is_shard, else-is_framed-via-else-is_framed}
@@ -23,6 +23,6 @@ returns-else-is_framed c s is =
           let yes : IsTrue false = w.if-is_shard.ensures.1 (subst IsShard same is.shard) in
           cc
       | else-is_framed-via-else-is_framed w ↦
-          let yes : IsTrue false = w.if-is_framed.ensures.1 (subst IsFramed (sym is.spelled) (IsFramed-shard_bytes s)) in
+          let yes : IsTrue false = w.if-is_framed.ensures.1 (subst HasShardFrame (sym is.spelled) (IsFramed-shard_bytes s)) in
           cc
     ]

@@ -3,17 +3,17 @@ use Rattle.std.proofs.Math.Seq.{take-length}
 use Rattle.pot_shared.proofs.hand.put_back.Goals as goal
 
 pub move_front-requires-clause-count : goal.move_front-requires-clause-count
-move_front-requires-clause-count g c = omega (arith, c.len-count.ensures, c.args.shelves.ok.0)
+move_front-requires-clause-count g c = omega (arith, c.len-count.ensures, c.args.back.ok.0)
 
 pub move_front-requires-clause-space : goal.move_front-requires-clause-space
-move_front-requires-clause-space g c = omega (arith, c.len-count.ensures, c.args.shelves.ok.0, c.requires)
+move_front-requires-clause-space g c = omega (arith, c.len-count.ensures, c.args.back.ok.0, c.requires)
 
 pub destroy_empty-requires : goal.destroy_empty-requires
 destroy_empty-requires g c =
-    let n = ap length c.move_front.ensures.from in let d = length-drop c.len-count.result c.args.shelves.items in
-    omega (arith, c.move_front.new.from.ok.0, n, d, c.len-count.ensures, c.args.shelves.ok.0)
+    let n = ap length c.move_front.ensures.from in let d = length-drop c.len-count.result c.args.back.items in
+    omega (arith, c.move_front.new.from.ok.0, n, d, c.len-count.ensures, c.args.back.ok.0)
 
 pub returns-clause-items : goal.returns-clause-items
 returns-clause-items g c =
-    let long : c.len-count.result ≡ length c.args.shelves.items = omega (arith, c.len-count.ensures, c.args.shelves.ok.0) in
-    c.move_front.ensures.into ∙ ap (λ l. c.args.hand.now.items ++ l) (ap (λ n. take n c.args.shelves.items) long ∙ take-length c.args.shelves.items)
+    let long : c.len-count.result ≡ length c.args.back.items = omega (arith, c.len-count.ensures, c.args.back.ok.0) in
+    c.move_front.ensures.into ∙ ap (λ l. c.args.into.now.items ++ l) (ap (λ n. take n c.args.back.items) long ∙ take-length c.args.back.items)

@@ -5,7 +5,7 @@ use Rattle.pot_machine.specs.Table.{count}
 use Rattle.pot_store.specs.declared.points.Points.{Points}
 use Rattle.pot_store.specs.Visits.{block_in, was_seen}
 use Rattle.pot_store.specs.Points.{came_in}
-use Rattle.pot_store.specs.Reads.{IsMissing, PointsRead, PointsTried}
+use Rattle.pot_store.specs.Reads.{IsFileMissing, PointsRead, PointsTried}
 use Rattle.pot_store.proofs.FitLemmas.{current_fits, fragment_within, points_within, pieces_few}
 use Rattle.pot_store.proofs.NoteLemmas.{points_count, points_distinct, points_positive}
 use Rattle.pot_store.proofs.KnownLemmas.{seen_most}
@@ -73,7 +73,7 @@ returns-then-count-kept-clause-read g c =
     c.first_block-from.ensures c.in_ok-see_points.ensures.read in
     let fewer : count kept.geometry.shards (λ y. was_seen (came_in points y)) < kept.geometry.need = subst (λ m. m < kept.geometry.need) c.count.ensures c.if-count-kept.true in
     fragment_missing c.args.caller.now.job kept c.args.at.piece c.args.at.fragment c.args.rooms.now.fragments.items c.args.passes.now.groups c.see_points.new.passes.groups points read c.missing.result fewer
-    (subst (λ m. IsMissing kept m c.args.at.piece c.args.at.fragment (came_in points) c.missing.result) c.first_block-from.ensures c.missing.ensures)
+    (subst (λ m. IsFileMissing kept m c.args.at.piece c.args.at.fragment (came_in points) c.missing.result) c.first_block-from.ensures c.missing.ensures)
 
 pub gather-requires : goal.gather-requires
 gather-requires g c = (current_fits c.args.caller.now.vault.now.rack c.args.kept.now c.requires.fits).geometry.limits.shards

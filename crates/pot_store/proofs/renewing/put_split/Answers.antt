@@ -4,7 +4,7 @@ use Rattle.pot_bytes.specs.declared.rack.Place.{Place}
 use Rattle.pot_shared.specs.Connections.{bound, knows}
 use Rattle.pot_store.specs.Drawing.{Drawn, all_blocks}
 use Rattle.pot_store.specs.Puts.{PutsEnd}
-use Rattle.pot_store.specs.Renewals.{IsSplit, PutsSplit}
+use Rattle.pot_store.specs.Renewals.{IsFileSplit, PutsSplit}
 use Rattle.pot_store.specs.declared.renewing.RenewFileFault.{RenewFileFault}
 use Rattle.pot_store.proofs.RenewLemmas.{is_split, stopped_is}
 use Rattle.pot_store.proofs.renewing.put_split.Goals as goal
@@ -16,7 +16,7 @@ returns-in-Ok-put_all-clause-puts g c =
     let new = (knows c.put_all.new.connection).groups in
     let plan = c.in-Ok.plan in
     let put = c.in-Ok-put_all.ensures.put in
-    subst (λ (places : List Place). IsSplit b.vault.rack c.args.geometry.now b.job c.args.file.now c.args.pads (record { pieces = plan.pieces; shards = plan.shards })
+    subst (λ (places : List Place). IsFileSplit b.vault.rack c.args.geometry.now b.job c.args.file.now c.args.pads (record { pieces = plan.pieces; shards = plan.shards })
     (record { geometry = c.args.geometry.now; places = places }) old new) (sym c.from_vec.ensures)
     (is_split b.vault.rack c.args.geometry.now b.job c.args.file.now c.args.pads plan.pieces plan.shards plan.drawing plan.places.items c.put_all.new.places.items
     old new c.requires.geometry (λ i. (c.type_inv.file i).fits) c.in-Ok.ensures.planned put.0 put.1)

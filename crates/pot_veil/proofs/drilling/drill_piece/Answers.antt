@@ -5,7 +5,7 @@ use Rattle.pot_object.proofs.ObjectLemmas.{length-object}
 use Rattle.pot_shard.specs.FileBlocks.{piece_blocks}
 use Rattle.pot_shard.specs.FileLaws.{IsPiece}
 use Rattle.pot_shard.proofs.ByteLemmas.{object-bytes}
-use Rattle.pot_veil.specs.PieceLaws.{IsVeiled}
+use Rattle.pot_veil.specs.PieceLaws.{IsPieceVeiled}
 use Rattle.pot_veil.proofs.Kept.{kept}
 use Rattle.pot_veil.proofs.SeenLemmas.{seen_bytes, seen_points}
 use Rattle.pot_veil.proofs.drilling.drill_piece.Goals as goal
@@ -33,7 +33,7 @@ compare-requires-clause-kept c place lt holds =
       object_bytes = object-bytes id other piece c.fits-id (λ k. (c.type_inv.other k).fits);
       random_bytes = c.are_bytes.ensures;
     } in
-    let v : IsVeiled g (object id file piece) (object id other piece) (c.args.fragment - 1) seen random = record {
+    let v : IsPieceVeiled g (object id file piece) (object id other piece) (c.args.fragment - 1) seen random = record {
       piece = one;
       other_piece = two;
       fragment = omega (arith, c.requires.first, c.requires.last);

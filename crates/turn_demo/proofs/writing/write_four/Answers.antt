@@ -2,7 +2,7 @@ use Rattle.std.proofs.Common.{◌≡◌, ◌^◌, ◌++◌, ◌∙◌, ap, [], a
 use Rattle.std.specs.Prelude.{filter}
 use Rattle.pot_turn.specs.Passes.{view}
 use Rattle.pot_turn.specs.Views.{first_view, new_view}
-use Rattle.turn_demo.specs.Books.{lines_of, by, Wrote}
+use Rattle.turn_demo.specs.Books.{lines_of, by, WroteLines}
 use Rattle.turn_demo.proofs.Wrote.{wrote_joined}
 use Rattle.turn_demo.proofs.writing.write_four.Goals as goal
 
@@ -14,8 +14,8 @@ returns-clause-lines g c =
     let count = c.args.count in
     let opening : view pass ≡ first_view [] 1 = search rules in
     let parts : (view pass).parts ≡ 2 ^ 62 = ap (λ v. v.parts) opening in
-    let one : Wrote 0 2 count (view c.split.new.pass) (view mine) = search rules in
-    let two : Wrote 2 4 count (view c.in-Ok.other) (view theirs) = search rules in
+    let one : WroteLines 0 2 count (view c.split.new.pass) (view mine) = search rules in
+    let two : WroteLines 2 4 count (view c.in-Ok.other) (view theirs) = search rules in
     let given : view c.in-Ok.other ≡ new_view 2 (view pass) = search rules in
     let join = c.join.ensures in
     let wrote = wrote_joined (view pass) (view c.split.new.pass) (view c.in-Ok.other) (view mine) (view theirs) (view c.join.new.pass) 2 0 2 4 count (omega arith) (omega arith) (omega (arith, parts)) mine.known theirs.known

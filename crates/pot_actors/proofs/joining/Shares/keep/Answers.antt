@@ -1,5 +1,4 @@
-use Rattle.std.proofs.Common.{◌≡◌, ◌<◌, ◌++◌, ◌∷◌, [], true, length, take, drop, nat_lt, ap, ap₂, sym, ◌∙◌, arith, length-drop, ℕ, List, Some}
-use Rattle.std.proofs.lemmas.Bool.Decides.{nat_tests}
+use Rattle.std.proofs.Common.{◌≡◌, ◌<◌, ◌++◌, ◌∷◌, [], length, take, drop, ap, ap₂, sym, ◌∙◌, arith, length-drop, ℕ, List, Some}
 use Rattle.std.proofs.lemmas.List.{take_all}
 use Rattle.pot_actors.specs.Joins.{Shared, with_point}
 use Rattle.pot_actors.proofs.JoinLemmas.{under}

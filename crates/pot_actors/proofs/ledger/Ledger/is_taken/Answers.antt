@@ -2,7 +2,7 @@ use Rattle.std.proofs.Common.{◌≡◌, Bool, true, false, ◌||◌, ap, ◌∙
 use Rattle.std.specs.Prelude.{find, is_some}
 use Rattle.pot_index.specs.declared.record.Record.{Record}
 use Rattle.pot_index.specs.Index.{same_name}
-use Rattle.pot_world.specs.World.{is_reserved, record_of}
+use Rattle.pot_world.specs.World.{is_reserved}
 use Rattle.pot_actors.specs.Ledgers.{names_of}
 use Rattle.pot_actors.proofs.NameLemmas.{finds_alike}
 use Rattle.pot_actors.proofs.ledger.Ledger.is_taken.Goals as goal

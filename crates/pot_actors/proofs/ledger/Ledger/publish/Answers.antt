@@ -1,12 +1,11 @@
-use Rattle.std.proofs.Common.{List, sym, subst}
-use Rattle.pot_index.specs.declared.record.Record.{Record}
-use Rattle.pot_index.specs.Searches.{BelongsAt, StandsAt}
+use Rattle.std.proofs.Common.{subst}
+use Rattle.pot_index.specs.Searches.{BelongsAt, RecordStandsAt}
 use Rattle.pot_index.proofs.RecordLemmas.{stands_published}
 use Rattle.pot_actors.proofs.NameLemmas.{published_ledger}
 use Rattle.pot_actors.proofs.ledger.Ledger.publish.Goals as goal
 
 pub unreachable-requires : goal.unreachable-requires
-unreachable-requires c = c.requires.free (stands_published c.args.self.now.records.items c.args.kept.name c.in_default.field-0 (subst (λ rs. StandsAt rs c.args.kept.name c.in_default.field-0) c.deref.ensures.value c.in_default.ensures))
+unreachable-requires c = c.requires.free (stands_published c.args.self.now.records.items c.args.kept.name c.in_default.field-0 (subst (λ rs. RecordStandsAt rs c.args.kept.name c.in_default.field-0) c.deref.ensures.value c.in_default.ensures))
 
 pub returns : goal.returns
 returns c =

@@ -13,7 +13,7 @@ use Rattle.pot_group.proofs.group.Group.begin_flight.Goals as goal
 pub push_reserved-requires-3 : goal.push_reserved-requires-3
 push_reserved-requires-3 g c =
     let a = c.self.inside in
-    let v : GroupParts _ = record { number = a.number; first = a.first; table = a.table; log = a.log.items; flights = a.flights.items; blinds = map (λ s. s.value) a.blinds.items; shelves = a.archives } in
+    let v : GroupParts _ = record { number = a.number; first = a.first; table = a.table; log = a.log.items; flights = a.flights.items; blinds = map (λ s. s.value) a.blinds.items; tried = a.tried; shelves = a.archives } in
     let few : begins a.log.items ≤ length a.log.items = begins_few a.log.items in
     let long : length (map (λ s. s.value) a.blinds.items) ≡ length a.blinds.items = length-map a.blinds.items (λ s. s.value) in
     let count : length (map (λ s. s.value) a.blinds.items) ≡ begins a.log.items = c.self.invariant.0.blinds in
@@ -23,7 +23,7 @@ push_reserved-requires-3 g c =
 pub invariant_of-self : goal.invariant_of-self
 invariant_of-self g c =
     let a = c.self.inside in
-    let v : GroupParts _ = record { number = a.number; first = a.first; table = a.table; log = a.log.items; flights = a.flights.items; blinds = map (λ s. s.value) a.blinds.items; shelves = a.archives } in (
+    let v : GroupParts _ = record { number = a.number; first = a.first; table = a.table; log = a.log.items; flights = a.flights.items; blinds = map (λ s. s.value) a.blinds.items; tried = a.tried; shelves = a.archives } in (
       begin_exit (IsTrue g.A.Archive.account.tells) (view_of g.A.Archive.account.meaning v) c.args.job c.args.place.stripe c.args.place.column c.args.blind.now
           c.begin-flight.new.table c.push_reserved.new.self.items c.push_reserved-2.new.self.items _ c.self.invariant.0
           (subst (λ (w : GroupParts _). Legal w.table (Begin c.args.job c.args.place.stripe c.args.place.column)) (sym c.self.view_is) c.requires.legal)

@@ -4,7 +4,7 @@ use Rattle.std.proofs.lemmas.Fn.{filter_same}
 use Rattle.pot_machine.specs.Table.{Table, next_column}
 use Rattle.pot_bytes.specs.Digests.{digest_of}
 use Rattle.pot_shelves.specs.Shelves.{numbers_of}
-use Rattle.pot_group.specs.Relaying.{Advances, EndsWell}
+use Rattle.pot_group.specs.Relaying.{Advances, EndsRelay}
 use Rattle.pot_group.specs.declared.relaying.AdvanceFault.TheVariants as failed
 use Rattle.pot_steps.specs.declared.flight.Flight.{Flight}
 use Rattle.pot_steps.specs.Flights.{flight_in}
@@ -19,14 +19,14 @@ use Rattle.pot_group.proofs.group.Group.finish_flight.Goals as goal
 pub finish-requires-clause-stands : goal.finish-requires-clause-stands
 finish-requires-clause-stands g c =
     let a = c.self.inside in
-    let v : GroupParts _ = record { number = a.number; first = a.first; table = a.table; log = a.log.items; flights = a.flights.items; blinds = map (λ s. s.value) a.blinds.items; shelves = a.archives } in
+    let v : GroupParts _ = record { number = a.number; first = a.first; table = a.table; log = a.log.items; flights = a.flights.items; blinds = map (λ s. s.value) a.blinds.items; tried = a.tried; shelves = a.archives } in
     stands_in_table (IsTrue g.A.Archive.account.tells) (view_of g.A.Archive.account.meaning v) c.args.flight c.self.invariant.0
     (subst (λ (w : GroupParts _). flight_in w.flights c.args.flight.relay.stripe ≡ Some c.args.flight) (sym c.self.view_is) c.requires.here)
 
 pub invariant_of-self-in-Odd : goal.invariant_of-self-in-Odd
 invariant_of-self-in-Odd g c =
     let a = c.self.inside in
-    let v : GroupParts _ = record { number = a.number; first = a.first; table = a.table; log = a.log.items; flights = a.flights.items; blinds = map (λ s. s.value) a.blinds.items; shelves = a.archives } in (
+    let v : GroupParts _ = record { number = a.number; first = a.first; table = a.table; log = a.log.items; flights = a.flights.items; blinds = map (λ s. s.value) a.blinds.items; tried = a.tried; shelves = a.archives } in (
       odd_settled (IsTrue g.A.Archive.account.tells) (view_of g.A.Archive.account.meaning v) c.args.job c.args.flight c.self.invariant.0 (subst (λ (w : GroupParts _). length w.log < 262144) (sym c.self.view_is) c.requires.room)
           (subst (λ (w : GroupParts _). flight_in w.flights c.args.flight.relay.stripe ≡ Some c.args.flight) (sym c.self.view_is) c.requires.here)
           (subst (λ (w : GroupParts _). next_column w.table c.args.flight.relay ≡ None) (sym c.self.view_is) c.requires.next)
@@ -41,7 +41,7 @@ invariant_of-self-in-Odd g c =
 pub returns-in-Odd : goal.returns-in-Odd
 returns-in-Odd g c =
     let a = c.self.inside in
-    let v : GroupParts _ = record { number = a.number; first = a.first; table = a.table; log = a.log.items; flights = a.flights.items; blinds = map (λ s. s.value) a.blinds.items; shelves = a.archives } in
+    let v : GroupParts _ = record { number = a.number; first = a.first; table = a.table; log = a.log.items; flights = a.flights.items; blinds = map (λ s. s.value) a.blinds.items; tried = a.tried; shelves = a.archives } in
     subst (λ (w : GroupParts _). Advances (IsTrue g.A.Archive.account.tells) c.args.job c.args.flight.relay.stripe (Err (failed.Odd c.in-Odd.wanted c.in-Odd.found)) (view_of g.A.Archive.account.meaning w)
     (view_of g.A.Archive.account.meaning (record v { table = c.finish.new.table; log = c.push_reserved.new.self.items; flights = c.retain.new.self.items }))) c.self.view_is
     (odd_advances (IsTrue g.A.Archive.account.tells) (view_of g.A.Archive.account.meaning v) c.args.job c.args.flight c.self.invariant.0 (subst (λ (w : GroupParts _). length w.log < 262144) (sym c.self.view_is) c.requires.room)
@@ -52,11 +52,11 @@ returns-in-Odd g c =
 pub returns-in-Ready : goal.returns-in-Ready
 returns-in-Ready g c =
     let a = c.self.inside in
-    let v : GroupParts _ = record { number = a.number; first = a.first; table = a.table; log = a.log.items; flights = a.flights.items; blinds = map (λ s. s.value) a.blinds.items; shelves = a.archives } in
+    let v : GroupParts _ = record { number = a.number; first = a.first; table = a.table; log = a.log.items; flights = a.flights.items; blinds = map (λ s. s.value) a.blinds.items; tried = a.tried; shelves = a.archives } in
     let m = c.in-Ready.ensures in
     subst (λ (w : GroupParts _). Advances (IsTrue g.A.Archive.account.tells) c.args.job c.args.flight.relay.stripe c.write_back.result (view_of g.A.Archive.account.meaning w) (view_of g.A.Archive.account.meaning c.write_back.new.self)) c.self.view_is
     (well_advances (IsTrue g.A.Archive.account.tells) (view_of g.A.Archive.account.meaning v) c.args.job c.args.flight c.self.invariant.0 (subst (λ (w : GroupParts _). length w.log < 262144) (sym c.self.view_is) c.requires.room)
     (subst (λ (w : GroupParts _). flight_in w.flights c.args.flight.relay.stripe ≡ Some c.args.flight) (sym c.self.view_is) c.requires.here)
     (subst (λ (w : GroupParts _). next_column w.table c.args.flight.relay ≡ None) (sym c.self.view_is) c.requires.next)
     c.in-Ready.block m.0 (m.2 ∙ ap (λ b. Some (digest_of b)) (sym m.0)) (view_of g.A.Archive.account.meaning c.write_back.new.self) c.write_back.result
-    (subst (λ (t : Table). EndsWell (IsTrue g.A.Archive.account.tells) c.args.job c.in-Ready.block c.args.flight c.write_back.result (view_of g.A.Archive.account.meaning (record v { table = t })) (view_of g.A.Archive.account.meaning c.write_back.new.self)) m.1 c.write_back.ensures))
+    (subst (λ (t : Table). EndsRelay (IsTrue g.A.Archive.account.tells) c.args.job c.in-Ready.block c.args.flight c.write_back.result (view_of g.A.Archive.account.meaning (record v { table = t })) (view_of g.A.Archive.account.meaning c.write_back.new.self)) m.1 c.write_back.ensures))

@@ -15,21 +15,21 @@ use Rattle.pot_group.proofs.group.Group.leave_flight.Goals as goal
 pub give_up-entry-requires-clause-stands : goal.give_up-entry-requires-clause-stands
 give_up-entry-requires-clause-stands g c =
     let a = c.self.inside in
-    let v : GroupParts _ = record { number = a.number; first = a.first; table = a.table; log = a.log.items; flights = a.flights.items; blinds = map (λ s. s.value) a.blinds.items; shelves = a.archives } in
+    let v : GroupParts _ = record { number = a.number; first = a.first; table = a.table; log = a.log.items; flights = a.flights.items; blinds = map (λ s. s.value) a.blinds.items; tried = a.tried; shelves = a.archives } in
     stands_in_table (IsTrue g.A.Archive.account.tells) (view_of g.A.Archive.account.meaning v) c.args.flight c.self.invariant.0
     (subst (λ (w : GroupParts _). flight_in w.flights c.args.flight.relay.stripe ≡ Some c.args.flight) (sym c.self.view_is) c.requires.here)
 
 pub give_up-entry-requires-clause-next : goal.give_up-entry-requires-clause-next
 give_up-entry-requires-clause-next g c =
     let a = c.self.inside in
-    let v : GroupParts _ = record { number = a.number; first = a.first; table = a.table; log = a.log.items; flights = a.flights.items; blinds = map (λ s. s.value) a.blinds.items; shelves = a.archives } in
+    let v : GroupParts _ = record { number = a.number; first = a.first; table = a.table; log = a.log.items; flights = a.flights.items; blinds = map (λ s. s.value) a.blinds.items; tried = a.tried; shelves = a.archives } in
     is_some_next _ (next_column a.table c.args.flight.relay)
     (subst (λ (w : GroupParts _). IsSomeAnd (next_column w.table c.args.flight.relay) (λ k. IsTrue g.A.Archive.account.tells → Sound (stripe_of w.table (plain g.A.Archive.account.meaning w.shelves).held c.args.flight.relay.stripe) k → ⊥)) (sym c.self.view_is) c.requires.next)
 
 pub invariant_of-self : goal.invariant_of-self
 invariant_of-self g c =
     let a = c.self.inside in
-    let v : GroupParts _ = record { number = a.number; first = a.first; table = a.table; log = a.log.items; flights = a.flights.items; blinds = map (λ s. s.value) a.blinds.items; shelves = a.archives } in (
+    let v : GroupParts _ = record { number = a.number; first = a.first; table = a.table; log = a.log.items; flights = a.flights.items; blinds = map (λ s. s.value) a.blinds.items; tried = a.tried; shelves = a.archives } in (
       left_exit (IsTrue g.A.Archive.account.tells) (view_of g.A.Archive.account.meaning v) c.args.job c.args.flight c.self.invariant.0
           (subst (λ (w : GroupParts _). length w.log < 262144) (sym c.self.view_is) c.requires.room)
           (subst (λ (w : GroupParts _). flight_in w.flights c.args.flight.relay.stripe ≡ Some c.args.flight) (sym c.self.view_is) c.requires.here)
@@ -47,7 +47,7 @@ invariant_of-self g c =
 pub returns : goal.returns
 returns g c =
     let a = c.self.inside in
-    let v : GroupParts _ = record { number = a.number; first = a.first; table = a.table; log = a.log.items; flights = a.flights.items; blinds = map (λ s. s.value) a.blinds.items; shelves = a.archives } in
+    let v : GroupParts _ = record { number = a.number; first = a.first; table = a.table; log = a.log.items; flights = a.flights.items; blinds = map (λ s. s.value) a.blinds.items; tried = a.tried; shelves = a.archives } in
     left_means c.args.job c.args.self.now v c.give_up-entry.result c.give_up-entry.new.table c.args.flight c.push_reserved.new.self.items c.retain.new.self.items c.self.view_is
     c.give_up-entry.ensures.entry c.give_up-entry.ensures.table c.push_reserved.ensures.items
     (filter_same _ (λ (f : Flight). not (f.relay.stripe == c.args.flight.relay.stripe)) _ (λ x b q h. search (rules, tests)) _ _ c.retain.ensures.filtered)

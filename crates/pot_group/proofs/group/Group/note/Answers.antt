@@ -9,7 +9,7 @@ use Rattle.pot_group.proofs.group.Group.note.Goals as goal
 pub invariant_of-self : goal.invariant_of-self
 invariant_of-self g c =
     let a = c.self.inside in
-    let v : GroupParts _ = record { number = a.number; first = a.first; table = a.table; log = a.log.items; flights = a.flights.items; blinds = map (λ s. s.value) a.blinds.items; shelves = a.archives } in
+    let v : GroupParts _ = record { number = a.number; first = a.first; table = a.table; log = a.log.items; flights = a.flights.items; blinds = map (λ s. s.value) a.blinds.items; tried = a.tried; shelves = a.archives } in
     let s = settled_quiet (IsTrue g.A.Archive.account.tells) (view_of g.A.Archive.account.meaning v) c.args.entry c.self.invariant.0
     (subst (λ (w : GroupParts _). Legal w.table c.args.entry) (sym c.self.view_is) c.requires.legal)
     (subst (λ (w : GroupParts _). length w.log < 262144) (sym c.self.view_is) c.requires.room)

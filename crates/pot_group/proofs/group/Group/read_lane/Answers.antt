@@ -10,7 +10,7 @@ use Rattle.pot_group.proofs.group.Group.read_lane.Goals as goal
 pub read-answer-requires : goal.read-answer-requires
 read-answer-requires g c =
     let a = c.self.inside in
-    let v : GroupParts _ = record { number = a.number; first = a.first; table = a.table; log = a.log.items; flights = a.flights.items; blinds = map (λ s. s.value) a.blinds.items; shelves = a.archives } in
+    let v : GroupParts _ = record { number = a.number; first = a.first; table = a.table; log = a.log.items; flights = a.flights.items; blinds = map (λ s. s.value) a.blinds.items; tried = a.tried; shelves = a.archives } in
     subst (λ n. Contains (plain g.A.Archive.account.meaning a.archives).numbers n) (sym c.archive_of-number.ensures)
     (served (IsTrue g.A.Archive.account.tells) (view_of g.A.Archive.account.meaning v) c.self.invariant.0 c.args.place.stripe c.args.place.column
     (subst (λ (w : GroupParts _). c.args.place.column < width w.table) (sym c.self.view_is) c.requires.column))
@@ -18,7 +18,7 @@ read-answer-requires g c =
 pub invariant_of-self : goal.invariant_of-self
 invariant_of-self g c =
     let a = c.self.inside in
-    let v : GroupParts _ = record { number = a.number; first = a.first; table = a.table; log = a.log.items; flights = a.flights.items; blinds = map (λ s. s.value) a.blinds.items; shelves = a.archives } in (
+    let v : GroupParts _ = record { number = a.number; first = a.first; table = a.table; log = a.log.items; flights = a.flights.items; blinds = map (λ s. s.value) a.blinds.items; tried = a.tried; shelves = a.archives } in (
       settled_stays (IsTrue g.A.Archive.account.tells) (view_of g.A.Archive.account.meaning v)
           (plain g.A.Archive.account.meaning c.read-answer.new.self) c.self.invariant.0 c.read-answer.ensures.stays,
       c.self.invariant.1,

@@ -13,7 +13,7 @@ use Rattle.pot_group.proofs.group.Group.swap_to.Goals as goal
 pub invariant_of-self : goal.invariant_of-self
 invariant_of-self g c =
     let a = c.self.inside in
-    let v : GroupParts _ = record { number = a.number; first = a.first; table = a.table; log = a.log.items; flights = a.flights.items; blinds = map (λ s. s.value) a.blinds.items; shelves = a.archives } in (
+    let v : GroupParts _ = record { number = a.number; first = a.first; table = a.table; log = a.log.items; flights = a.flights.items; blinds = map (λ s. s.value) a.blinds.items; tried = a.tried; shelves = a.archives } in (
       swap_exit (IsTrue g.A.Archive.account.tells) (view_of g.A.Archive.account.meaning (with_archives v c.bring.new.self)) c.args.job c.args.column c.args.shelf.number c.note.new.table c.note.new.log.items
           (settled_brings (IsTrue g.A.Archive.account.tells) (view_of g.A.Archive.account.meaning v) c.args.shelf.number (g.A.Archive.account.meaning c.args.shelf.archive) (plain g.A.Archive.account.meaning c.bring.new.self) c.self.invariant.0
           (subst (λ (w : GroupParts _). Contains (plain g.A.Archive.account.meaning w.shelves).numbers c.args.shelf.number → ⊥) (sym c.self.view_is) c.requires.fresh) c.in-Ok.ensures.brought)
@@ -30,7 +30,7 @@ invariant_of-self g c =
 pub invariant_of-self-in-Err : goal.invariant_of-self-in-Err
 invariant_of-self-in-Err g c =
     let a = c.self.inside in
-    let v : GroupParts _ = record { number = a.number; first = a.first; table = a.table; log = a.log.items; flights = a.flights.items; blinds = map (λ s. s.value) a.blinds.items; shelves = a.archives } in (
+    let v : GroupParts _ = record { number = a.number; first = a.first; table = a.table; log = a.log.items; flights = a.flights.items; blinds = map (λ s. s.value) a.blinds.items; tried = a.tried; shelves = a.archives } in (
       subst (λ (b : Shelved _). IsSettled (IsTrue g.A.Archive.account.tells) (view_of g.A.Archive.account.meaning (with_archives v b))) (sym c.in-Err.ensures.refused.1) c.self.invariant.0,
       c.self.invariant.1,
       c.self.invariant.2,

@@ -9,7 +9,7 @@ use Rattle.pot_group.proofs.group.Group.trace.Goals.{in-Some, in-None}
 pub returns : goal.returns
 returns g c =
     let a = c.self.inside in
-    let v : GroupParts _ = record { number = a.number; first = a.first; table = a.table; log = a.log.items; flights = a.flights.items; blinds = map (λ s. s.value) a.blinds.items; shelves = a.archives } in
+    let v : GroupParts _ = record { number = a.number; first = a.first; table = a.table; log = a.log.items; flights = a.flights.items; blinds = map (λ s. s.value) a.blinds.items; tried = a.tried; shelves = a.archives } in
     record {
       home = subst (λ (w : GroupParts _). IsHomeAt (view_of g.A.Archive.account.meaning w) c.args.from c.match-holder_of.home) c.self.view_is (elim c.match-holder_of.branch [
         | in-Some w ↦ subst (λ (o : Option HomeAt). IsHomeAt (view_of g.A.Archive.account.meaning v) c.args.from o) (sym (w.home-is ∙ w.home_of-home.ensures))

@@ -8,7 +8,7 @@ use Rattle.pot_steps.specs.declared.flight.Flight.{Flight}
 use Rattle.pot_steps.specs.Flights.{flight_in}
 use Rattle.pot_shelves.specs.Shelves.{plain, WritesAt, numbers_of}
 use Rattle.pot_group.specs.Group.{GroupParts, view_of}
-use Rattle.pot_group.specs.Relaying.{EndsWell}
+use Rattle.pot_group.specs.Relaying.{EndsRelay}
 use Rattle.pot_group.specs.declared.relaying.Advanced.TheVariants as advanced
 use Rattle.pot_group.specs.declared.relaying.AdvanceFault.TheVariants as failed
 use Rattle.pot_group.specs.Arrivals.{arrival}
@@ -19,7 +19,7 @@ use Rattle.pot_group.proofs.group.Group.write_back.Goals as goal
 pub archive_of-number-requires : goal.archive_of-number-requires
 archive_of-number-requires g c =
     let a = c.self.inside in
-    let v : GroupParts _ = record { number = a.number; first = a.first; table = a.table; log = a.log.items; flights = a.flights.items; blinds = map (λ s. s.value) a.blinds.items; shelves = a.archives } in
+    let v : GroupParts _ = record { number = a.number; first = a.first; table = a.table; log = a.log.items; flights = a.flights.items; blinds = map (λ s. s.value) a.blinds.items; tried = a.tried; shelves = a.archives } in
     target_wide (IsTrue g.A.Archive.account.tells) (view_of g.A.Archive.account.meaning v) (view_of g.A.Archive.account.meaning v).shelves c.args.job c.args.flight c.args.block.now c.self.invariant.0
     (subst (λ (w : GroupParts _). length w.log < 262144) (sym c.self.view_is) c.requires.room)
     (subst (λ (w : GroupParts _). flight_in w.flights c.args.flight.relay.stripe ≡ Some c.args.flight) (sym c.self.view_is) c.requires.here)
@@ -28,7 +28,7 @@ archive_of-number-requires g c =
 pub write-requires : goal.write-requires
 write-requires g c =
     let a = c.self.inside in
-    let v : GroupParts _ = record { number = a.number; first = a.first; table = a.table; log = a.log.items; flights = a.flights.items; blinds = map (λ s. s.value) a.blinds.items; shelves = a.archives } in
+    let v : GroupParts _ = record { number = a.number; first = a.first; table = a.table; log = a.log.items; flights = a.flights.items; blinds = map (λ s. s.value) a.blinds.items; tried = a.tried; shelves = a.archives } in
     subst (λ n. Contains (plain g.A.Archive.account.meaning a.archives).numbers n) (sym c.archive_of-number.ensures)
     (target_served (IsTrue g.A.Archive.account.tells) (view_of g.A.Archive.account.meaning v) c.args.flight c.self.invariant.0
     (subst (λ (w : GroupParts _). flight_in w.flights c.args.flight.relay.stripe ≡ Some c.args.flight) (sym c.self.view_is) c.requires.here))
@@ -36,7 +36,7 @@ write-requires g c =
 pub mended-entry-requires : goal.mended-entry-requires
 mended-entry-requires g c =
     let a = c.self.inside in
-    let v : GroupParts _ = record { number = a.number; first = a.first; table = a.table; log = a.log.items; flights = a.flights.items; blinds = map (λ s. s.value) a.blinds.items; shelves = a.archives } in
+    let v : GroupParts _ = record { number = a.number; first = a.first; table = a.table; log = a.log.items; flights = a.flights.items; blinds = map (λ s. s.value) a.blinds.items; tried = a.tried; shelves = a.archives } in
     mended_legal (IsTrue g.A.Archive.account.tells) (view_of g.A.Archive.account.meaning v) (plain g.A.Archive.account.meaning c.write.new.self) c.args.job c.args.flight c.args.block.now c.self.invariant.0
     (subst (λ (w : GroupParts _). length w.log < 262144) (sym c.self.view_is) c.requires.room)
     (subst (λ (w : GroupParts _). flight_in w.flights c.args.flight.relay.stripe ≡ Some c.args.flight) (sym c.self.view_is) c.requires.here)
@@ -45,7 +45,7 @@ mended-entry-requires g c =
 pub invariant_of-self : goal.invariant_of-self
 invariant_of-self g c =
     let a = c.self.inside in
-    let v : GroupParts _ = record { number = a.number; first = a.first; table = a.table; log = a.log.items; flights = a.flights.items; blinds = map (λ s. s.value) a.blinds.items; shelves = a.archives } in (
+    let v : GroupParts _ = record { number = a.number; first = a.first; table = a.table; log = a.log.items; flights = a.flights.items; blinds = map (λ s. s.value) a.blinds.items; tried = a.tried; shelves = a.archives } in (
       mended_exit (IsTrue g.A.Archive.account.tells) (view_of g.A.Archive.account.meaning v) (plain g.A.Archive.account.meaning c.write.new.self) c.args.job c.args.flight c.args.block.now c.self.invariant.0
           (subst (λ (w : GroupParts _). length w.log < 262144) (sym c.self.view_is) c.requires.room)
           (subst (λ (w : GroupParts _). flight_in w.flights c.args.flight.relay.stripe ≡ Some c.args.flight) (sym c.self.view_is) c.requires.here)
@@ -64,7 +64,7 @@ invariant_of-self g c =
 pub note-requires-clause-legal : goal.note-requires-clause-legal
 note-requires-clause-legal g c =
     let a = c.self.inside in
-    let v : GroupParts _ = record { number = a.number; first = a.first; table = a.table; log = a.log.items; flights = a.flights.items; blinds = map (λ s. s.value) a.blinds.items; shelves = a.archives } in
+    let v : GroupParts _ = record { number = a.number; first = a.first; table = a.table; log = a.log.items; flights = a.flights.items; blinds = map (λ s. s.value) a.blinds.items; tried = a.tried; shelves = a.archives } in
     fault_legal (IsTrue g.A.Archive.account.tells) (view_of g.A.Archive.account.meaning v) (plain g.A.Archive.account.meaning c.write.new.self) c.args.job c.args.flight c.args.block.now c.self.invariant.0
     (subst (λ (w : GroupParts _). length w.log < 262144) (sym c.self.view_is) c.requires.room)
     (subst (λ (w : GroupParts _). flight_in w.flights c.args.flight.relay.stripe ≡ Some c.args.flight) (sym c.self.view_is) c.requires.here)
@@ -73,7 +73,7 @@ note-requires-clause-legal g c =
 pub invariant_of-self-in-Err : goal.invariant_of-self-in-Err
 invariant_of-self-in-Err g c =
     let a = c.self.inside in
-    let v : GroupParts _ = record { number = a.number; first = a.first; table = a.table; log = a.log.items; flights = a.flights.items; blinds = map (λ s. s.value) a.blinds.items; shelves = a.archives } in (
+    let v : GroupParts _ = record { number = a.number; first = a.first; table = a.table; log = a.log.items; flights = a.flights.items; blinds = map (λ s. s.value) a.blinds.items; tried = a.tried; shelves = a.archives } in (
       fault_exit (IsTrue g.A.Archive.account.tells) (view_of g.A.Archive.account.meaning v) (plain g.A.Archive.account.meaning c.write.new.self) c.args.job c.args.flight c.args.block.now c.self.invariant.0
           (subst (λ (w : GroupParts _). length w.log < 262144) (sym c.self.view_is) c.requires.room)
           (subst (λ (w : GroupParts _). flight_in w.flights c.args.flight.relay.stripe ≡ Some c.args.flight) (sym c.self.view_is) c.requires.here)
@@ -89,9 +89,9 @@ invariant_of-self-in-Err g c =
 pub returns-in-Ok : goal.returns-in-Ok
 returns-in-Ok g c =
     let a = c.self.inside in
-    let v : GroupParts _ = record { number = a.number; first = a.first; table = a.table; log = a.log.items; flights = a.flights.items; blinds = map (λ s. s.value) a.blinds.items; shelves = a.archives } in
-    subst (λ (w : GroupParts _). EndsWell (IsTrue g.A.Archive.account.tells) c.args.job c.args.block.now c.args.flight (Ok advanced.Mended) (view_of g.A.Archive.account.meaning w)
-    (record { number = a.number; first = a.first; table = c.mended-entry.new.table; log = c.push_reserved.new.self.items; flights = c.retain.new.self.items; blinds = map (λ s. s.value) a.blinds.items; shelves = (plain g.A.Archive.account.meaning c.write.new.self) })) c.self.view_is (
+    let v : GroupParts _ = record { number = a.number; first = a.first; table = a.table; log = a.log.items; flights = a.flights.items; blinds = map (λ s. s.value) a.blinds.items; tried = a.tried; shelves = a.archives } in
+    subst (λ (w : GroupParts _). EndsRelay (IsTrue g.A.Archive.account.tells) c.args.job c.args.block.now c.args.flight (Ok advanced.Mended) (view_of g.A.Archive.account.meaning w)
+    (record { number = a.number; first = a.first; table = c.mended-entry.new.table; log = c.push_reserved.new.self.items; flights = c.retain.new.self.items; blinds = map (λ s. s.value) a.blinds.items; tried = a.tried; shelves = (plain g.A.Archive.account.meaning c.write.new.self) })) c.self.view_is (
       record {
         number = refl;
         first = refl;
@@ -103,6 +103,7 @@ returns-in-Ok g c =
         log = rw c.mended-entry.ensures.entry at c.push_reserved.ensures.items;
         flights = (filter_same _ (λ (f : Flight). not (f.relay.stripe == c.args.flight.relay.stripe)) _ (λ x b q h. search (rules, tests)) _ _ c.retain.ensures.filtered);
         blinds = refl;
+        tried = refl;
       },
       (subst (λ n. WritesAt (IsTrue g.A.Archive.account.tells) n c.args.flight.relay.stripe c.args.block.now (Ok (tt)) (plain g.A.Archive.account.meaning a.archives) (plain g.A.Archive.account.meaning c.write.new.self)) c.archive_of-number.ensures c.in-Ok.ensures),
     )
@@ -110,9 +111,9 @@ returns-in-Ok g c =
 pub returns-in-Err : goal.returns-in-Err
 returns-in-Err g c =
     let a = c.self.inside in
-    let v : GroupParts _ = record { number = a.number; first = a.first; table = a.table; log = a.log.items; flights = a.flights.items; blinds = map (λ s. s.value) a.blinds.items; shelves = a.archives } in
-    subst (λ (w : GroupParts _). EndsWell (IsTrue g.A.Archive.account.tells) c.args.job c.args.block.now c.args.flight (Err (failed.Faulted c.args.flight.relay.target)) (view_of g.A.Archive.account.meaning w)
-    (record { number = a.number; first = a.first; table = c.note.new.table; log = c.note.new.log.items; flights = a.flights.items; blinds = map (λ s. s.value) a.blinds.items; shelves = (plain g.A.Archive.account.meaning c.write.new.self) })) c.self.view_is (
+    let v : GroupParts _ = record { number = a.number; first = a.first; table = a.table; log = a.log.items; flights = a.flights.items; blinds = map (λ s. s.value) a.blinds.items; tried = a.tried; shelves = a.archives } in
+    subst (λ (w : GroupParts _). EndsRelay (IsTrue g.A.Archive.account.tells) c.args.job c.args.block.now c.args.flight (Err (failed.Faulted c.args.flight.relay.target)) (view_of g.A.Archive.account.meaning w)
+    (record { number = a.number; first = a.first; table = c.note.new.table; log = c.note.new.log.items; flights = a.flights.items; blinds = map (λ s. s.value) a.blinds.items; tried = a.tried; shelves = (plain g.A.Archive.account.meaning c.write.new.self) })) c.self.view_is (
       refl,
       record {
         number = refl;
@@ -125,6 +126,7 @@ returns-in-Err g c =
         log = c.note.ensures.log;
         flights = refl;
         blinds = refl;
+        tried = refl;
       },
       (c.in-Err.field-0, (subst (λ n. WritesAt (IsTrue g.A.Archive.account.tells) n c.args.flight.relay.stripe c.args.block.now (Err c.in-Err.field-0) (plain g.A.Archive.account.meaning a.archives) (plain g.A.Archive.account.meaning c.write.new.self)) c.archive_of-number.ensures c.in-Err.ensures)),
     )

@@ -8,7 +8,7 @@ use Rattle.pot_group.specs.declared.copying.MoveStep.TheVariants as moved
 use Rattle.pot_group.specs.declared.copying.MoveFault.TheVariants as failed
 use Rattle.pot_shelves.specs.Shelves.{plain, numbers_of}
 use Rattle.pot_group.specs.Group.{GroupParts, view_of}
-use Rattle.pot_group.specs.Moving.{Steps}
+use Rattle.pot_group.specs.Moving.{StepsMove}
 use Rattle.pot_group.proofs.MoveExits.{target_there}
 use Rattle.pot_group.proofs.Stepping.{copied_exit, copied_steps, uncopied_exit, uncopied_steps}
 use Rattle.pot_group.proofs.Arriving.{none_arrived, moved_brings}
@@ -17,7 +17,7 @@ use Rattle.pot_group.proofs.group.Group.write_copy.Goals as goal
 pub write-requires : goal.write-requires
 write-requires g c =
     let a = c.self.inside in
-    let v : GroupParts _ = record { number = a.number; first = a.first; table = a.table; log = a.log.items; flights = a.flights.items; blinds = map (λ s. s.value) a.blinds.items; shelves = a.archives } in
+    let v : GroupParts _ = record { number = a.number; first = a.first; table = a.table; log = a.log.items; flights = a.flights.items; blinds = map (λ s. s.value) a.blinds.items; tried = a.tried; shelves = a.archives } in
     target_there (IsTrue g.A.Archive.account.tells) (view_of g.A.Archive.account.meaning v) c.args.moving.upto c.args.column c.args.moving c.self.invariant.0
     (subst (λ (w : GroupParts _). c.args.column < width w.table) (sym c.self.view_is) c.requires.column)
     (subst (λ (w : GroupParts _). (column_at w.table c.args.column).moving ≡ Some c.args.moving) (sym c.self.view_is) c.requires.moves) refl
@@ -25,7 +25,7 @@ write-requires g c =
 pub invariant_of-self : goal.invariant_of-self
 invariant_of-self g c =
     let a = c.self.inside in
-    let v : GroupParts _ = record { number = a.number; first = a.first; table = a.table; log = a.log.items; flights = a.flights.items; blinds = map (λ s. s.value) a.blinds.items; shelves = a.archives } in (
+    let v : GroupParts _ = record { number = a.number; first = a.first; table = a.table; log = a.log.items; flights = a.flights.items; blinds = map (λ s. s.value) a.blinds.items; tried = a.tried; shelves = a.archives } in (
       copied_exit (IsTrue g.A.Archive.account.tells) (view_of g.A.Archive.account.meaning v) c.args.job c.args.column c.args.moving c.self.invariant.0
           (subst (λ (w : GroupParts _). length w.log < 262144) (sym c.self.view_is) c.requires.room)
           (subst (λ (w : GroupParts _). c.args.column < width w.table) (sym c.self.view_is) c.requires.column)
@@ -42,7 +42,7 @@ invariant_of-self g c =
 pub invariant_of-self-in-Err : goal.invariant_of-self-in-Err
 invariant_of-self-in-Err g c =
     let a = c.self.inside in
-    let v : GroupParts _ = record { number = a.number; first = a.first; table = a.table; log = a.log.items; flights = a.flights.items; blinds = map (λ s. s.value) a.blinds.items; shelves = a.archives } in (
+    let v : GroupParts _ = record { number = a.number; first = a.first; table = a.table; log = a.log.items; flights = a.flights.items; blinds = map (λ s. s.value) a.blinds.items; tried = a.tried; shelves = a.archives } in (
       uncopied_exit (IsTrue g.A.Archive.account.tells) (view_of g.A.Archive.account.meaning v) c.args.job c.args.column c.args.moving c.self.invariant.0
           (subst (λ (w : GroupParts _). length w.log < 262144) (sym c.self.view_is) c.requires.room)
           (subst (λ (w : GroupParts _). c.args.column < width w.table) (sym c.self.view_is) c.requires.column)
@@ -59,9 +59,9 @@ invariant_of-self-in-Err g c =
 pub returns-in-Ok : goal.returns-in-Ok
 returns-in-Ok g c =
     let a = c.self.inside in
-    let v : GroupParts _ = record { number = a.number; first = a.first; table = a.table; log = a.log.items; flights = a.flights.items; blinds = map (λ s. s.value) a.blinds.items; shelves = a.archives } in
-    subst (λ (w : GroupParts _). Steps (IsTrue g.A.Archive.account.tells) c.args.job c.args.column (Ok moved.Copied) (view_of g.A.Archive.account.meaning w)
-    (record { number = a.number; first = a.first; table = c.move_one-entry.new.table; log = c.push_reserved.new.self.items; flights = a.flights.items; blinds = map (λ s. s.value) a.blinds.items; shelves = (plain g.A.Archive.account.meaning c.write.new.self) })) c.self.view_is
+    let v : GroupParts _ = record { number = a.number; first = a.first; table = a.table; log = a.log.items; flights = a.flights.items; blinds = map (λ s. s.value) a.blinds.items; tried = a.tried; shelves = a.archives } in
+    subst (λ (w : GroupParts _). StepsMove (IsTrue g.A.Archive.account.tells) c.args.job c.args.column (Ok moved.Copied) (view_of g.A.Archive.account.meaning w)
+    (record { number = a.number; first = a.first; table = c.move_one-entry.new.table; log = c.push_reserved.new.self.items; flights = a.flights.items; blinds = map (λ s. s.value) a.blinds.items; tried = a.tried; shelves = (plain g.A.Archive.account.meaning c.write.new.self) })) c.self.view_is
     (copied_steps (IsTrue g.A.Archive.account.tells) (view_of g.A.Archive.account.meaning v) c.args.job c.args.column c.args.moving c.self.invariant.0
     (subst (λ (w : GroupParts _). length w.log < 262144) (sym c.self.view_is) c.requires.room)
     (subst (λ (w : GroupParts _). c.args.column < width w.table) (sym c.self.view_is) c.requires.column)
@@ -73,9 +73,9 @@ returns-in-Ok g c =
 pub returns-in-Err : goal.returns-in-Err
 returns-in-Err g c =
     let a = c.self.inside in
-    let v : GroupParts _ = record { number = a.number; first = a.first; table = a.table; log = a.log.items; flights = a.flights.items; blinds = map (λ s. s.value) a.blinds.items; shelves = a.archives } in
-    subst (λ (w : GroupParts _). Steps (IsTrue g.A.Archive.account.tells) c.args.job c.args.column (Err (failed.Faulted c.args.column)) (view_of g.A.Archive.account.meaning w)
-    (record { number = a.number; first = a.first; table = c.note.new.table; log = c.note.new.log.items; flights = a.flights.items; blinds = map (λ s. s.value) a.blinds.items; shelves = (plain g.A.Archive.account.meaning c.write.new.self) })) c.self.view_is
+    let v : GroupParts _ = record { number = a.number; first = a.first; table = a.table; log = a.log.items; flights = a.flights.items; blinds = map (λ s. s.value) a.blinds.items; tried = a.tried; shelves = a.archives } in
+    subst (λ (w : GroupParts _). StepsMove (IsTrue g.A.Archive.account.tells) c.args.job c.args.column (Err (failed.Faulted c.args.column)) (view_of g.A.Archive.account.meaning w)
+    (record { number = a.number; first = a.first; table = c.note.new.table; log = c.note.new.log.items; flights = a.flights.items; blinds = map (λ s. s.value) a.blinds.items; tried = a.tried; shelves = (plain g.A.Archive.account.meaning c.write.new.self) })) c.self.view_is
     (uncopied_steps (IsTrue g.A.Archive.account.tells) (view_of g.A.Archive.account.meaning v) c.args.job c.args.column c.args.moving c.self.invariant.0
     (subst (λ (w : GroupParts _). length w.log < 262144) (sym c.self.view_is) c.requires.room)
     (subst (λ (w : GroupParts _). c.args.column < width w.table) (sym c.self.view_is) c.requires.column)

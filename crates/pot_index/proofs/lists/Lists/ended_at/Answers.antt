@@ -1,6 +1,6 @@
 use Rattle.std.proofs.Common.{◌∙◌, ap, sym, subst, arith}
 use Rattle.std.specs.Prelude.{Any, MatchOption}
-use Rattle.pot_index.specs.Ending.{IsHeld, EndsAt}
+use Rattle.pot_index.specs.Ending.{IsNameHeld, EndsAt}
 use Rattle.pot_index.specs.Entries.{IsReserving, entries}
 use Rattle.pot_index.specs.Index.{IndexView}
 use Rattle.pot_index.proofs.ListLemmas.{log_is, entries-with_brought}
@@ -15,5 +15,5 @@ end_of-requires-clause-made c =
 
 pub returns : goal.returns
 returns c =
-    subst (λ es. MatchOption c.end_of.result (IsHeld c.args.job c.args.name.now es) (EndsAt c.args.job c.args.name.now es))
+    subst (λ es. MatchOption c.end_of.result (IsNameHeld c.args.job c.args.name.now es) (EndsAt c.args.job c.args.name.now es))
     (c.deref.ensures.value ∙ sym (entries-with_brought c.self.inside.log.items _) ∙ ap (λ (v : IndexView). entries v.log) c.self.view_is) c.end_of.ensures

@@ -24,9 +24,9 @@ returns-in-Ok-clause-own g c = record {
 }
 
 pub returns-in-Ok-clause-read : goal.returns-in-Ok-clause-read
-returns-in-Ok-clause-read g c = λ told still.
-    read_back _ c.give-given.result _ _ _ _ _ _ (λ r. still (rose_later _ _ _ c.take.ensures.own.later r)) c.give-given.ensures.own c.give-given.ensures.told told (c.in-Ok.ensures.told told)
-    (c.read_slots-read.ensures.read told)
+returns-in-Ok-clause-read g c = λ told.
+    read_back _ c.give-given.result (g.R.Room.meaning c.args.room.now) (g.R.Room.meaning c.take.new.self) (g.R.Room.meaning c.give-given.new.self) c.args.number _ _ c.take.ensures.own.later c.give-given.ensures.own
+    c.in-Ok.ensures.vacates c.give-given.ensures.lost c.give-given.ensures.told told (c.in-Ok.ensures.told told) (c.read_slots-read.ensures.read told)
 
 pub returns-in-Err-clause-read : goal.returns-in-Err-clause-read
-returns-in-Err-clause-read g c = λ told still. subst (λ m. WasRead ((g.R.Room.meaning c.args.room.now).means c.args.number) m) (sym c.in-Err.ensures.unchanged) (read_not _)
+returns-in-Err-clause-read g c = λ told. inl (subst (λ m. WasRead ((g.R.Room.meaning c.args.room.now).means c.args.number) m) (sym c.in-Err.ensures.unchanged) (read_not _))

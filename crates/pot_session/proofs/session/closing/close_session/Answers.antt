@@ -45,7 +45,7 @@ pub returns-clause-closes : goal.returns-clause-closes
 returns-clause-closes g c s is =
     closes g.R.A.Archive.account _ s.room (g.R.Room.meaning c.args.room.now) (g.R.Room.meaning c.give_hand-given.new.room) _ s.old (known c.args.opened.passes.groups c.args.opened.passes.index) _
     (whole_transition g.D.Desk.account c.args.desk.now c.keep_image-kept.new.desk) s.first _
-    c.give_hand-given.result c.keep_image-kept.result _ c.keep_image-kept.ensures.told c.keep_image-kept.ensures.which c.keep_image-kept.ensures.cause c.give_hand-given.ensures.back is.served.served.opened is.begun c.requires.rack
+    c.give_hand-given.result c.keep_image-kept.result _ c.keep_image-kept.ensures.told c.keep_image-kept.ensures.came c.keep_image-kept.ensures.had c.keep_image-kept.ensures.which c.keep_image-kept.ensures.cause c.give_hand-given.ensures.back is.served.served.opened is.begun c.requires.rack
     (c.end-tables.ensures.groups s.old s.room.means is.served) (c.end-tables.ensures.logs s.old is.served.served)
     (λ told g t q. c.end-tables.ensures.opened s.old s.room.means is.served told g t (ap (λ ts. slice_get ts g) (sym is.begun.are_tables) ∙ q))
     c.first_failure.ensures c.keep_image-kept.ensures.whole

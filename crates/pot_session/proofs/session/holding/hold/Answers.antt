@@ -35,3 +35,6 @@ pub serve-requires-clause-space : goal.serve-requires-clause-space
 serve-requires-clause-space g c = λ bounds within.
     let p = c.in-Ok.ensures.prepared in
     subst (λ (rs : List Record). length rs + log_bound ≤ 4000000000) (sym (ap (λ (v : Contents). v.records) p.is)) p.of.goes_on.1
+
+pub serve-requires-clause-kept : goal.serve-requires-clause-kept
+serve-requires-clause-kept g c = λ bounds within told. (c.in-Ok.ensures.prepared.kept told, c.in-Ok.ensures.prepared.had told)

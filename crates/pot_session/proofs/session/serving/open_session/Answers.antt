@@ -18,10 +18,10 @@ pub take_archives-requires-clause-low : goal.take_archives-requires-clause-low
 take_archives-requires-clause-low g c = λ bounds within. subst (λ ts. AreLow (flat_map archives_in ts)) (sym c.deref.ensures.value) (image_low (contents c.args.image) c.requires.together)
 
 pub open-requires-clause-tables : goal.open-requires-clause-tables
-open-requires-clause-tables g c = first_tables c.args.image.rack c.args.image.tables.items c.requires.together.tables.fits
+open-requires-clause-tables g c = λ bounds within. first_tables c.args.image.rack c.args.image.tables.items c.requires.together.tables.fits
 
 pub open-requires-clause-space : goal.open-requires-clause-space
-open-requires-clause-space g c =
+open-requires-clause-space g c = λ bounds within.
     let e = ap length c.deref.ensures.value in let space = c.in-Ok.ensures.space in
     record {
       tables = (let s = space.tables in omega (arith, e, s));

@@ -1,4 +1,4 @@
-use Rattle.std.proofs.Common.{◌≡◌, ◌++◌, IsTrue, List, length, sym, ap, subst, ◌∙◌, arith}
+use Rattle.std.proofs.Common.{rules, refl, ◌≡◌, ◌++◌, IsTrue, List, length, sym, ap, subst, ◌∙◌, arith}
 use Rattle.std.specs.Prelude.{flat_map}
 use Rattle.std.specs.List.{AllByRecursion}
 use Rattle.pot_bytes.specs.declared.rack.Rack.{Rack}
@@ -6,19 +6,21 @@ use Rattle.pot_outside.specs.Accounts.{whole_transition}
 use Rattle.pot_outside.specs.Archives.{IsMeant}
 use Rattle.pot_outside.specs.Rooms.{room_transition}
 use Rattle.pot_image.specs.Images.{contents}
+use Rattle.pot_image.specs.Spelling.{image_bytes}
 use Rattle.pot_machine.specs.Table.{Table, archives_in}
 use Rattle.pot_shared.specs.Works.{known}
 use Rattle.pot_commands.specs.declared.working.Ending.TheVariants as ending
-use Rattle.pot_commands.specs.Failures.{Fails}
+use Rattle.pot_commands.specs.Failures.{FailsOwn}
 use Rattle.pot_commands.specs.Rows.{HasFilled}
 use Rattle.pot_commands.specs.Steps.{IsWorkedStep}
 use Rattle.pot_commands.specs.Taking.{asked_by}
 use Rattle.pot_shared.specs.Remains.{HasSpace}
-use Rattle.pot_session.specs.Serving.{IsEnd}
+use Rattle.pot_session.specs.Serving.{IsEnd, Unlent, Unopened}
 use Rattle.pot_session.proofs.Counts.{caused_both, caused_fails, caused_second}
 use Rattle.pot_session.proofs.FoundLemmas.{came_since}
 use Rattle.pot_session.proofs.LeftImage.{had_numbers}
 use Rattle.pot_session.proofs.OutLemmas.{out_apart}
+use Rattle.pot_session.proofs.PastImages.{came_none}
 use Rattle.pot_session.proofs.LendLemmas.{first_used, have_come, home_after, image_low, low_after, marks_before, means_after, none_before_asked, none_first, out_after, still_meant}
 use Rattle.pot_session.proofs.WorkLemmas.{are_worked, asked_low}
 use Rattle.pot_session.proofs.ServeLemmas.{but_kept_parts, all_parts, has_filled, same_read, same_records, still_but_kept, still_all, serves_closed, end_by_kept, sink_by_kept, room_by_kept, desk_by_kept}
@@ -102,7 +104,7 @@ returns-clause-serves g c =
     (room_transition g.R.A.Archive.account g.R.Room.meaning c.args.room.now c.close_session-closed.new.room) _
     (whole_transition g.D.Desk.account c.args.desk.now c.close_session-closed.new.desk) _ _ (known c.in-Ok.opened.passes.groups c.in-Ok.opened.passes.index) (known c.work-ending.new.passes.groups c.work-ending.new.passes.index) c.work-ending.result
     (g.R.Room.meaning c.work-ending.new.room).failures c.close_session-closed.result.kept c.close_session-closed.result.first _ c.in-Ok.ensures.opened.vault.first c.in-Ok.ensures.opened.vault.are_tables c.in-Ok.ensures.opened.vault.are_records c.in-Ok.ensures.opened.vault.is_rack c.in-Ok.ensures.opened.session c.work-ending.ensures.ends
-    (subst (λ k. Fails k (g.R.Room.meaning c.work-ending.new.room).failures (c.work-ending.result ≡ ending.RoomFailed)) c.in-Ok.ensures.sound c.work-ending.ensures.own) closes c.requires.kept
+    (subst (λ k. FailsOwn k (g.R.Room.meaning c.work-ending.new.room).failures (c.work-ending.result ≡ ending.RoomFailed)) c.in-Ok.ensures.sound c.work-ending.ensures.own) closes c.requires.kept
     (λ told well n none unbrought. (let still = still_meant (IsTrue g.R.A.Archive.account.tells) _ (asked_by c.args.steps.now) (g.R.Room.meaning c.open_session.new.room) (g.R.Room.meaning c.work-ending.new.room) (known c.in-Ok.opened.passes.groups c.in-Ok.opened.passes.index) (known c.work-ending.new.passes.groups c.work-ending.new.passes.index) c.work-ending.ensures.took.taken c.work-ending.ensures.took.takes c.work-ending.ensures.took.come (flat_map archives_in c.args.image.tables.items) c.in-Ok.ensures.out
     told well closes.sole n none (sym (came_since (known c.in-Ok.opened.passes.groups c.in-Ok.opened.passes.index) (known c.work-ending.new.passes.groups c.work-ending.new.passes.index) closes.last.group_logs c.in-Ok.ensures.opened.vault.first closes.leaves.logs long n) ∙ unbrought) in
     subst (λ m. IsMeant m ((g.R.Room.meaning c.close_session-closed.new.room).means n)) (c.open_session.ensures.untouched n none)
@@ -142,3 +144,11 @@ returns-in-Err-Failed-clause-untouched g c n none =
 pub returns-in-Err-NoMemory-clause-untouched : goal.returns-in-Err-NoMemory-clause-untouched
 returns-in-Err-NoMemory-clause-untouched g c n none =
     c.open_session.ensures.untouched n (none_before_asked n (flat_map archives_in c.args.image.tables.items) (asked_by c.args.steps.now) none)
+
+pub returns-in-Err-Failed-clause-serves : goal.returns-in-Err-Failed-clause-serves
+returns-in-Err-Failed-clause-serves g c =
+    Unlent (search rules) (λ told. refl) (λ told. ((c.requires.kept told).0, came_none (g.D.Desk.account.meaning c.args.desk.now).held.past (image_bytes (contents c.args.image)))) (search rules) c.open_session.ensures.untouched
+
+pub returns-in-Err-NoMemory-clause-serves : goal.returns-in-Err-NoMemory-clause-serves
+returns-in-Err-NoMemory-clause-serves g c =
+    Unopened (search rules) (λ told. refl) (λ told. ((c.requires.kept told).0, came_none (g.D.Desk.account.meaning c.args.desk.now).held.past (image_bytes (contents c.args.image)))) (search rules, c.open_session.ensures.untouched)
