@@ -28,7 +28,7 @@ use Rattle.pot_group.specs.declared.answers.PutFault.TheVariants as fault
 use Rattle.pot_group.specs.Calls.{MendTells, MoveTells, PutCall, PutTries}
 use Rattle.pot_group.specs.Frames.{Tries}
 use Rattle.pot_group.specs.Group.{GroupView, LogsOf, put_as}
-use Rattle.pot_group.specs.Moving.{FailedBy, OnMove, move_as}
+use Rattle.pot_group.specs.Moving.{FaultRose, OnMove, move_as}
 use Rattle.pot_group.specs.Relaying.{LogsEntry, AtEnd, Moves, OnWay, mend_as}
 use Rattle.pot_group.specs.Sweeping.{Look, LooksOn}
 use Rattle.pot_steps.specs.GroupStep.{NotPut}
@@ -164,7 +164,7 @@ move_adds job c (Ok moved.Ended) old new entries t = none_added old new refl
     (on_move old c (λ m. (m.upto ≡ old.table.stripes) × LogsEntry (entry.MoveEnd job c) [] old new) (SameLists old new) t.1 (λ m h. (h.1.blinds, h.1.tried)))
 move_adds job c (Err (stopped.Faulted column)) old new entries t = none_added old new refl
     (on_move old c (λ m. (m.upto < old.table.stripes) × IsTrue (is_live (slot_at old.table m.upto c))
-    × (FailedBy old new (serving_at old.table m.upto c) ⊎ FailedBy old new m.to)
+    × (FaultRose old new (serving_at old.table m.upto c) ⊎ FaultRose old new m.to)
     × LogsEntry (entry.Fault job m.upto c) [] old new) (SameLists old new) t.1.1 (λ m h. (h.3.blinds, h.3.tried)))
 move_adds job c (Err stopped.LogFull) old new entries t = none_added old new refl (same_view old new t.1)
 move_adds job c (Err stopped.Idle) old new entries t = none_added old new refl (same_view old new t.1)

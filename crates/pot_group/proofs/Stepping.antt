@@ -27,7 +27,7 @@ use Rattle.pot_group.specs.Group.{GroupParts, GroupView, IsSettled, noted, state
 use Rattle.pot_group.specs.Relaying.{LogsEntry, acted}
 use Rattle.pot_steps.specs.MoveSteps.{MoveStep as IsMoveStep}
 use Rattle.pot_steps.proofs.MendingSteps.{some_of}
-use Rattle.pot_group.specs.Moving.{CopiesInto, FailedBy, MoveWrites, MovesOn, OnMove, StepsMove, move_as}
+use Rattle.pot_group.specs.Moving.{CopiesInto, FaultRose, MoveWrites, MovesOn, OnMove, StepsMove, move_as}
 use Rattle.pot_group.proofs.BeginSteps.{logged_in}
 use Rattle.pot_group.proofs.MoveExits.{beside, copied_settled, copies, move_end_settled, passed_settled, target_named, uncopied_settled}
 use Rattle.pot_group.proofs.RelayExits.{unwritten}
@@ -131,7 +131,7 @@ module _ (told : Type 0) (g : GroupView) (job c : ℕ) (m : Moving) (settled : I
         moves = (
           refl,
           on_move (λ n. (n.upto < g.table.stripes) × IsTrue (is_live (slot_at g.table n.upto c))
-              × (FailedBy g (record g { table = t; log = log; shelves = now }) (serving_at g.table n.upto c) ⊎ FailedBy g (record g { table = t; log = log; shelves = now }) n.to)
+              × (FaultRose g (record g { table = t; log = log; shelves = now }) (serving_at g.table n.upto c) ⊎ FaultRose g (record g { table = t; log = log; shelves = now }) n.to)
               × LogsEntry (Fault job n.upto c) [] g (record g { table = t; log = log; shelves = now }))
               (lt, live, inr (w.cause refl), record { number = refl; first = refl; legal = (lt, column); table = et; log = el; flights = refl; blinds = refl; tried = refl }),
         );
@@ -199,7 +199,7 @@ module _ {A : Type 0} (told : Type 0) (meaning : A → Meaning) (old : GroupPart
     moves = (
       refl,
       on_move told (view_of meaning old) job c m settled room column moving (λ n. (n.upto < old.table.stripes) × IsTrue (is_live (slot_at old.table n.upto c))
-          × (FailedBy (view_of meaning old) (view_of meaning (noted (with_archives old b) (Fault job m.upto c))) (serving_at old.table n.upto c) ⊎ FailedBy (view_of meaning old) (view_of meaning (noted (with_archives old b) (Fault job m.upto c))) n.to)
+          × (FaultRose (view_of meaning old) (view_of meaning (noted (with_archives old b) (Fault job m.upto c))) (serving_at old.table n.upto c) ⊎ FaultRose (view_of meaning old) (view_of meaning (noted (with_archives old b) (Fault job m.upto c))) n.to)
           × LogsEntry (Fault job n.upto c) [] (view_of meaning old) (view_of meaning (noted (with_archives old b) (Fault job m.upto c))))
           (lt, ap is_live live, inl finds.means, acts b (Fault job m.upto c) (lt, column)),
     );
@@ -230,7 +230,7 @@ module _ {A : Type 0} (told : Type 0) (meaning : A → Meaning) (old : GroupPart
     acts_back : (e : Entry) → LogsEntry e [] (view_of meaning (with_archives old b)) (view_of meaning new) → LogsEntry e [] (view_of meaning old) (view_of meaning new)
     acts_back e a = record { number = a.number; first = a.first; legal = a.legal; table = a.table; log = a.log; flights = a.flights; blinds = a.blinds; tried = a.tried }
 
-    rose_back : (n : ℕ) → FailedBy (view_of meaning (with_archives old b)) (view_of meaning new) n → FailedBy (view_of meaning old) (view_of meaning new) n
+    rose_back : (n : ℕ) → FaultRose (view_of meaning (with_archives old b)) (view_of meaning new) n → FaultRose (view_of meaning old) (view_of meaning new) n
     rose_back n (inl l) = inl (omega (arith, l, stays.keeps.later n))
     rose_back n (inr l) = inr l
 
@@ -240,8 +240,8 @@ module _ {A : Type 0} (told : Type 0) (meaning : A → Meaning) (old : GroupPart
     back (Ok moved.Ended) x = some_map (column_at old.table c).moving (λ n y. (y.0, acts_back (MoveEnd job c) y.1)) x
     back (Err (failed.Faulted d)) x = (x.0, some_map (column_at old.table c).moving (λ n y. (y.0, y.1, rises n y.2, acts_back (Fault job n.upto c) y.3)) x.1)
       where
-        rises : (n : Moving) → FailedBy (view_of meaning (with_archives old b)) (view_of meaning new) (serving_at old.table n.upto c) ⊎ FailedBy (view_of meaning (with_archives old b)) (view_of meaning new) n.to
-            → FailedBy (view_of meaning old) (view_of meaning new) (serving_at old.table n.upto c) ⊎ FailedBy (view_of meaning old) (view_of meaning new) n.to
+        rises : (n : Moving) → FaultRose (view_of meaning (with_archives old b)) (view_of meaning new) (serving_at old.table n.upto c) ⊎ FaultRose (view_of meaning (with_archives old b)) (view_of meaning new) n.to
+            → FaultRose (view_of meaning old) (view_of meaning new) (serving_at old.table n.upto c) ⊎ FaultRose (view_of meaning old) (view_of meaning new) n.to
         rises n (inl l) = inl (rose_back (serving_at old.table n.upto c) l)
         rises n (inr l) = inr (rose_back n.to l)
     back (Err failed.LogFull) x = absurd x

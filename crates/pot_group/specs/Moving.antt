@@ -80,8 +80,8 @@ abbrev pub OnMove : GroupView → ℕ → (Moving → Type 0) → Type 0
 OnMove g c P = IsSomeAnd (column_at g.table c).moving P
 
 -- a count of faults rose in the call
-abbrev pub FailedBy : GroupView → GroupView → ℕ → Type 0
-FailedBy old new number = Rose (old.shelves.faults number) (new.shelves.faults number)
+abbrev pub FaultRose : GroupView → GroupView → ℕ → Type 0
+FaultRose old new number = Rose (old.shelves.faults number) (new.shelves.faults number)
 
 -- The step of a column that moves. Faulted: the slot is Live, and the archive that serves it
 -- failed, or the target.
@@ -100,7 +100,7 @@ MovesOn job c (Err (failed.Faulted column)) old new =
     (column ≡ c)
     × OnMove old c
     (λ m. (m.upto < old.table.stripes) × IsTrue (is_live (slot_at old.table m.upto c))
-    × (FailedBy old new (serving_at old.table m.upto c) ⊎ FailedBy old new m.to)
+    × (FaultRose old new (serving_at old.table m.upto c) ⊎ FaultRose old new m.to)
     × LogsEntry (entry.Fault job m.upto c) [] old new)
 MovesOn job c (Err failed.LogFull) old new = ⊥
 MovesOn job c (Err failed.Idle) old new = ⊥

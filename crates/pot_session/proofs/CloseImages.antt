@@ -22,7 +22,7 @@ use Rattle.pot_image.specs.Rules.{HaveDigests, IsImageWhole}
 use Rattle.pot_image.specs.Spelling.{table_bytes, head_bytes, counted_bytes, entry_bytes, index_entry_bytes, field_bytes, text_bytes, image_bytes}
 use Rattle.pot_session.specs.declared.ending.stop.Stop.{Stop}
 use Rattle.pot_session.specs.declared.ending.stop.Stop.TheVariants as stop
-use Rattle.pot_session.specs.Desks.{Came, IfWritten, DeskKeeps, IsKeepStop}
+use Rattle.pot_session.specs.Desks.{CameToDesk, IfWritten, DeskKeeps, IsKeepStop}
 use Rattle.pot_rows.specs.Rows.{view_at}
 use Rattle.pot_rows.proofs.RowLemmas.{at_past}
 use Rattle.pot_replies.specs.Sessions.{ByNobody}
@@ -250,7 +250,7 @@ closes archives hand meant worked means read old new rack desk first last given 
         past = λ t. (
           desk.before.held.past,
           came_none desk.before.held.past (image_bytes first),
-          subst (λ b. Came desk.before.held.past b desk.after.held.past) (sym (same_image last)) (came_once desk.before.held.past (image_bytes last) desk.after.held.past (comes t)),
+          subst (λ b. CameToDesk desk.before.held.past b desk.after.held.past) (sym (same_image last)) (came_once desk.before.held.past (image_bytes last) desk.after.held.past (comes t)),
         );
         began = λ t. came_keeps desk.before.held.past (image_bytes last) desk.after.held.past (image_bytes first) (came_once desk.before.held.past (image_bytes last) desk.after.held.past (comes t)) ((held t).1 (image_bytes first) (held t).0);
         had = λ t. stays t (held t).1;

@@ -1,5 +1,5 @@
 -- What a group leaves may stand in an image: its table without relays, and the entries of its log.
-use Rattle.std.proofs.Common.{◌≡◌, ◌≤◌, ◌<◌, ◌+◌, ◌++◌, ◌==◌, ◌&&◌, ℕ, Bool, true, false, not, List, [], ◌∷◌, refl, subst, ◌∙◌, arith, cond, nat_le}
+use Rattle.std.proofs.Common.{◌≡◌, ◌≤◌, ◌<◌, ◌+◌, ◌==◌, ◌&&◌, ℕ, Bool, true, false, not, List, [], ◌∷◌, refl, subst, ◌∙◌, arith, cond, nat_le}
 use Rattle.std.specs.Prelude.{All, Contains, Some, None, is_some}
 use Rattle.std.proofs.lemmas.List.Elements.{All-cons, All-head, All-nil, All-tail, Contains-append_left, Contains-append_right}
 use Rattle.pot_bytes.specs.declared.rack.Rack.{Rack}

@@ -17,7 +17,7 @@ use Rattle.pot_session.specs.declared.ending.status.Status.TheVariants as status
 use Rattle.pot_session.specs.declared.ending.stop.Stop.{Stop}
 use Rattle.pot_session.specs.declared.ending.stop.Stop.TheVariants as stop
 use Rattle.pot_session.specs.Listing.{has_partial}
-use Rattle.pot_session.specs.Recovering.{AddsSlot, AreHeldIn, FindsObjects, GathersBlocks, ArchiveFailed, IsHeldIn, IsLost, IsRecovery, ListAnswers, Recovers, SomeFailed, WasRead, WereRead}
+use Rattle.pot_session.specs.Recovering.{AddsSlot, AreHeldIn, FindsObjects, GathersBlocks, ArchiveFailed, IsHeldIn, LostByRoom, IsRecovery, ListAnswers, Recovers, SomeFailed, WasRead, WereRead}
 use Rattle.pot_session.specs.Stops.{status_of}
 use Rattle.pot_session.specs.Telling.{told_status}
 
@@ -117,7 +117,7 @@ held_more number stripes meant middle means before after h untouched g others = 
 pub were_read : (archives number : ℕ) (old middle new : RoomState) → ((n : ℕ) → n < number → WasRead (old.means n) (middle.means n))
     → ((n : ℕ) → number ≤ n → middle.means n ≡ old.means n) → old.failures ≤ middle.failures
     → ((n : ℕ) → n ≢ number → new.means n ≡ middle.means n)
-    → WasRead (middle.means number) (new.means number) ⊎ IsLost middle new number
+    → WasRead (middle.means number) (new.means number) ⊎ LostByRoom middle new number
     → WereRead archives old new
 were_read archives number old middle new front untouched le others last = record {
   but = number;
@@ -160,7 +160,7 @@ why_failed room middle number (Err e) old new le cause back took rose = inl (ros
 pub read_back : (told : Type 0) (given : Result (Unit {0}) Failed) (room middle after : RoomState) (number : ℕ) (old new : Meaning) → room.failures ≤ middle.failures
     → Caused middle.failures after.failures (IsErr given) → IsVacant (middle.means number) → OnErr given (MayLose (middle.means number) new (after.means number))
     → OnOk given (told → IsMeant (after.means number) new) → told → IsMeant (room.means number) old → WasRead old new
-    → WasRead (room.means number) (after.means number) ⊎ IsLost room after number
+    → WasRead (room.means number) (after.means number) ⊎ LostByRoom room after number
 read_back told (Ok u) room middle after number old new le cause vacant lost back t o r = inl (read_meant old new _ _ o (back t) r)
 read_back told (Err e) room middle after number old new le cause vacant lost back t o r = elim lost [
   | inl same ↦ inr (record { failed = rose_later room.failures middle.failures after.failures le (cause.rose refl); vacant = subst IsVacant (sym same) vacant })

@@ -27,7 +27,7 @@ use Rattle.pot_session.specs.Calls.{RunsProgram, Session}
 use Rattle.pot_session.specs.Tasks.{seed_of}
 use Rattle.pot_session.specs.Making.{IsMakeStop, InitAnswers}
 use Rattle.pot_session.specs.Serving.{Closed, Serves, Unlent, Unopened, IsEnd}
-use Rattle.pot_session.specs.Desks.{Came}
+use Rattle.pot_session.specs.Desks.{CameToDesk}
 use Rattle.pot_session.specs.Stops.{Refuses, code_of, status_of}
 use Rattle.pot_session.proofs.PastImages.{came_more, came_once}
 
@@ -85,7 +85,7 @@ init_room sink (Err s) answer w r e = subst IsMakeStop (refused_room sink s answ
 
 -- a session over a desk that failed before it too
 longer : (seed : List ℕ) (careful : Bool) (first : Contents) (steps : List Step) (room : Transition RoomState) (sink : Transition (List ℕ)) (desk : Transition (Content Images)) (mid : Content Images) (answer : Status)
-    → desk.before.faults ≤ mid.faults → (IsTrue desk.tells → Came desk.before.held.past (image_bytes first) mid.held.past) → Serves seed careful first steps room sink (since desk mid) answer → Serves seed careful first steps room sink desk answer
+    → desk.before.faults ≤ mid.faults → (IsTrue desk.tells → CameToDesk desk.before.held.past (image_bytes first) mid.held.past) → Serves seed careful first steps room sink (since desk mid) answer → Serves seed careful first steps room sink desk answer
 longer seed careful first steps room sink desk mid answer le came (Unlent why same holds unlent others) =
     Unlent why same (λ t. ((holds t).0, came_more desk.before.held.past (image_bytes first) mid.held.past desk.after.held.past (came t) (holds t).1)) unlent others
 longer seed careful first steps room sink desk mid answer le came (Unopened why same holds others) =

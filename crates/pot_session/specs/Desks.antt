@@ -116,10 +116,10 @@ DeskKeeps desk bytes (Err _) = ⊥
 
 -- Of the images that a desk ever had: this one came to them, once or more often, or it did not; and
 -- no other did.
-abbrev pub Came : List (List ℕ) → List ℕ → List (List ℕ) → Type 0
-Came before image after = (n : ℕ) × (after ≡ before ++ replicate n image)
+abbrev pub CameToDesk : List (List ℕ) → List ℕ → List (List ℕ) → Type 0
+CameToDesk before image after = (n : ℕ) × (after ≡ before ++ replicate n image)
 
 -- so the first one came, and then the last one
 abbrev pub CameBoth : List (List ℕ) → (first last : List ℕ) → List (List ℕ) → Type 0
 CameBoth before first last after =
-    (between : List (List ℕ)) × Came before first between × Came between last after
+    (between : List (List ℕ)) × CameToDesk before first between × CameToDesk between last after

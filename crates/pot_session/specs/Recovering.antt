@@ -1,6 +1,6 @@
 -- The blocks that are read from archives without a desk, the objects that they give, and what
 -- `recover` comes to.
-use Rattle.std.specs.Prelude.{◌≡◌, ◌≢◌, ◌<◌, ◌≤◌, ◌-◌, ◌^◌, ◌⊎◌, ℕ, List, Some}
+use Rattle.std.specs.Prelude.{◌≡◌, ◌<◌, ◌≤◌, ◌-◌, ◌^◌, ◌⊎◌, ℕ, List, Some}
 use Rattle.std.specs.Prelude.{Result, Ok, Err, Contains, IsTrue, if◌then◌else◌, ◌+◌, ◌*◌, min, length}
 use Rattle.pot_outside.specs.Accounts.{Transition}
 use Rattle.pot_outside.specs.Archives.{Meaning, IsVacant, OnlyLoses}
@@ -72,7 +72,7 @@ pub record AreHeldIn (archives stripes : ℕ) (meant means : ℕ → Meaning)
 
 -- The room failed itself as it was to take this archive back, and it is lost: its number means an
 -- empty one.
-pub record IsLost (old new : RoomState) (number : ℕ) : Type 0 where
+pub record LostByRoom (old new : RoomState) (number : ℕ) : Type 0 where
   pub failed : Rose old.failures new.failures
   pub vacant : IsVacant (new.means number)
 
@@ -81,7 +81,7 @@ pub record IsLost (old new : RoomState) (number : ℕ) : Type 0 where
 pub record WereRead (archives : ℕ) (old new : RoomState) : Type 0 where
   pub but : ℕ
   pub read : (n : ℕ) → n < archives
-      → WasRead (old.means n) (new.means n) ⊎ ((n ≡ but) × IsLost old new n)
+      → WasRead (old.means n) (new.means n) ⊎ ((n ≡ but) × LostByRoom old new n)
   pub behind : (n : ℕ) → but < n → new.means n ≡ old.means n
 
 -- FAILURES

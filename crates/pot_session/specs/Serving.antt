@@ -41,7 +41,7 @@ use Rattle.pot_session.specs.declared.ending.status.Status.{Status}
 use Rattle.pot_session.specs.declared.ending.status.Status.TheVariants as status
 use Rattle.pot_session.specs.declared.ending.stop.Stop.{Stop}
 use Rattle.pot_session.specs.declared.ending.stop.Stop.TheVariants as stop
-use Rattle.pot_session.specs.Desks.{Came, CameBoth, IfWritten, IsKeepStop, DeskKeeps}
+use Rattle.pot_session.specs.Desks.{CameToDesk, CameBoth, IfWritten, IsKeepStop, DeskKeeps}
 use Rattle.pot_session.specs.Giving.{FailsToGive, IsUnlent, IsRoomUnopened}
 use Rattle.pot_shared.specs.Groups.{MarksRose, MarksRoseOften}
 use Rattle.pot_shared.specs.Leaving.{AreLogs, AreOpened, AreRecordsPut, LeaveGroups, LeavesRecords}
@@ -103,7 +103,7 @@ HoldsBegin held first = (held.now ≡ Some (image_bytes first)) × HadItsImage h
 abbrev pub KeepsBegin : Transition (Content Images) → Contents → Type 0
 KeepsBegin desk first =
     (desk.after.held.now ≡ Some (image_bytes first))
-    × Came desk.before.held.past (image_bytes first) desk.after.held.past
+    × CameToDesk desk.before.held.past (image_bytes first) desk.after.held.past
 
 -- The desk holds the image that a session left. Where it failed, which its count shows, it holds
 -- that one, the one with which the session began or none, and for want of memory the one with which

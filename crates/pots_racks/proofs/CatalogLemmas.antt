@@ -22,7 +22,7 @@ use Rattle.pots_racks.specs.declared.catalog.Listed.{Listed}
 use Rattle.pots_racks.specs.declared.catalog.RackDesk.{RackDesk}
 use Rattle.pots_racks.specs.declared.catalog.Line.{Line}
 use Rattle.pots_racks.specs.declared.catalog.Line.TheVariants.{OfRack, OfFile}
-use Rattle.pots_racks.specs.Catalog.{IsLine, IsListed, IsRackDesk, TellsOne, body, catalog_text, file_line, flag, head, line_text, rack_line, size, sum_line}
+use Rattle.pots_racks.specs.Catalog.{IsCatalogLine, IsListedFile, IsRackDesk, TellsOne, body, catalog_text, file_line, flag, head, line_text, rack_line, size, sum_line}
 
 -- HOW IT IS MADE
 
@@ -181,7 +181,7 @@ one_rack r s x y p q e =
     let same : rack_with r.rack r.generation r.length r.digest ≡ rack_with s.rack s.generation s.length s.digest = cc in
     (rack_is r ∙ same ∙ sym (rack_is s), fourth.1)
 
-one_file : (f g : Listed) (x y : List ℕ) → IsListed f → IsListed g → file_line f ++ x ≡ file_line g ++ y → (f ≡ g) × (x ≡ y)
+one_file : (f g : Listed) (x y : List ℕ) → IsListedFile f → IsListedFile g → file_line f ++ x ≡ file_line g ++ y → (f ≡ g) × (x ≡ y)
 one_file f g x y p q e =
     let rest = behind_file _ _ (sym (file_spread f x) ∙ e ∙ file_spread g y) in
     let first = one_cut 32 f.name g.name _ _ (name-without f.name p.0) (name-without g.name q.0) rest in
@@ -197,7 +197,7 @@ one_file f g x y p q e =
     let same : file_with f.name f.direct f.parts f.bytes f.complete ≡ file_with g.name g.direct g.parts g.bytes g.complete = cc in
     (file_is f ∙ same ∙ sym (file_is g), behind)
 
-one_line : (l m : Line) (x y : List ℕ) → IsLine l → IsLine m → line_text l ++ x ≡ line_text m ++ y → (l ≡ m) × (x ≡ y)
+one_line : (l m : Line) (x y : List ℕ) → IsCatalogLine l → IsCatalogLine m → line_text l ++ x ≡ line_text m ++ y → (l ≡ m) × (x ≡ y)
 one_line (OfRack r) (OfRack s) x y p q e =
     let same = one_rack r s x y p q e in
     (ap (λ (z : RackDesk). OfRack z) same.0, same.1)
@@ -213,13 +213,13 @@ some_line : (l : Line) (x : List ℕ) → [] ≡ line_text l ++ x → ⊥
 some_line (OfRack r) x e = cc
 some_line (OfFile f) x e = cc
 
-one_list : (a b : List Line) → All IsLine a → All IsLine b → flat_map line_text a ≡ flat_map line_text b → a ≡ b
+one_list : (a b : List Line) → All IsCatalogLine a → All IsCatalogLine b → flat_map line_text a ≡ flat_map line_text b → a ≡ b
 one_list [] [] p q e = refl
 one_list [] (m ∷ b) p q e = absurd (some_line m (flat_map line_text b) (e ∙ flat_map-cons line_text m b))
 one_list (l ∷ a) [] p q e = absurd (some_line l (flat_map line_text a) (sym e ∙ flat_map-cons line_text l a))
 one_list (l ∷ a) (m ∷ b) p q e =
-    let same = one_line l m (flat_map line_text a) (flat_map line_text b) (All-head IsLine l a p) (All-head IsLine m b q) (sym (flat_map-cons line_text l a) ∙ e ∙ flat_map-cons line_text m b) in
-    ap (λ (z : Line). z ∷ a) same.0 ∙ ap (λ (zs : List Line). m ∷ zs) (one_list a b (All-tail IsLine l a p) (All-tail IsLine m b q) same.1)
+    let same = one_line l m (flat_map line_text a) (flat_map line_text b) (All-head IsCatalogLine l a p) (All-head IsCatalogLine m b q) (sym (flat_map-cons line_text l a) ∙ e ∙ flat_map-cons line_text m b) in
+    ap (λ (z : Line). z ∷ a) same.0 ∙ ap (λ (zs : List Line). m ∷ zs) (one_list a b (All-tail IsCatalogLine l a p) (All-tail IsCatalogLine m b q) same.1)
 
 -- a last line is as long as another
 long_sum : (bytes : List ℕ) → length (sum_line (digest_bytes bytes)) ≡ 69

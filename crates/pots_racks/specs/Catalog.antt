@@ -59,25 +59,25 @@ catalog_text lines = body lines ++ sum_line (digest_bytes (body lines))
 
 -- each value of these types is one of these
 
-abbrev pub IsDigest : Digest → Type 0
-IsDigest d = (length d.bytes ≡ 32) × IsBytes d.bytes
+abbrev pub IsRackDigest : Digest → Type 0
+IsRackDigest d = (length d.bytes ≡ 32) × IsBytes d.bytes
 
 abbrev pub IsRackDesk : RackDesk → Type 0
 IsRackDesk r =
     (r.rack < 2 ^ 64) × (r.generation < 2 ^ 64) × (r.length < 2 ^ 64)
-    × IsDigest r.digest
+    × IsRackDigest r.digest
 
-abbrev pub IsListed : Listed → Type 0
-IsListed f =
+abbrev pub IsListedFile : Listed → Type 0
+IsListedFile f =
     IsName f.name × IfSome f.direct (λ n. n < 2 ^ 64) × (f.parts < 2 ^ 64) × (f.bytes < 2 ^ 64)
 
-abbrev pub IsLine : Line → Type 0
-IsLine (OfRack r) = IsRackDesk r
-IsLine (OfFile f) = IsListed f
+abbrev pub IsCatalogLine : Line → Type 0
+IsCatalogLine (OfRack r) = IsRackDesk r
+IsCatalogLine (OfFile f) = IsListedFile f
 
 -- this is the text of these lines
 pub record IsCatalogOf (lines : List Line) (text : List ℕ) : Type 0 where
-  pub each : All IsLine lines
+  pub each : All IsCatalogLine lines
   pub text_is : text ≡ catalog_text lines
 
 -- it is empty, or begins with `potshards-catalog` and a space

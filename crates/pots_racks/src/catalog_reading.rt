@@ -1,7 +1,7 @@
 //! The text of a catalog, as it is read.
 ghost use Rattle.std.specs.Prelude.{◌≡◌, All, IfOk, IfSome};
-ghost use Rattle.pots_racks.specs.Catalog.{IsCatalogOf, IsDigest, IsLine, IsListed, IsRackDesk};
-ghost use Rattle.pots_racks.specs.Catalog.{may_be_catalog};
+ghost use Rattle.pots_racks.specs.Catalog.{IsCatalogOf, IsRackDigest, IsCatalogLine};
+ghost use Rattle.pots_racks.specs.Catalog.{IsListedFile, IsRackDesk, may_be_catalog};
 
 use crate::catalog::{HEAD, Line, Listed, RackDesk, catalog_text};
 use hex::FromHex;
@@ -33,7 +33,7 @@ pub fn may_be_catalog(text: &[u8]) -> bool
 
 // The lines behind the first, up to one that is none of a rack or a file.
 fn lines_in(alloc: Global, text: &[u8]) -> Result<Vec<Line>, AllocError>
-    ensures { IfOk result (λ lines. All IsLine lines.items) }
+    ensures { IfOk result (λ lines. All IsCatalogLine lines.items) }
 {
     let mut lines = Vec::new(alloc);
     let behind = text.strip_prefix(HEAD).unwrap_or(b"");
@@ -47,7 +47,7 @@ fn lines_in(alloc: Global, text: &[u8]) -> Result<Vec<Line>, AllocError>
 }
 
 fn read_line(bytes: &[u8]) -> Option<Line>
-    ensures { IfSome result IsLine }
+    ensures { IfSome result IsCatalogLine }
 {
     let (kind, fields) = from_utf8(bytes).ok()?.split_once(' ')?;
     match kind {
@@ -72,14 +72,14 @@ fn read_desk(fields: &str) -> Option<RackDesk>
 }
 
 fn read_digest(digits: &str) -> Option<Digest>
-    ensures { IfSome result IsDigest }
+    ensures { IfSome result IsRackDigest }
 {
     let bytes = <[u8; 32]>::from_hex(digits).ok()?;
     Some(Digest { bytes })
 }
 
 fn read_file(fields: &str) -> Option<Listed>
-    ensures { IfSome result IsListed }
+    ensures { IfSome result IsListedFile }
 {
     let (name, fields) = fields.split_once(' ')?;
     let (size, fields) = fields.split_once(' ')?;

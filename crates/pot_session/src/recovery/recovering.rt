@@ -7,7 +7,7 @@ ghost use Rattle.pot_outside.specs.Rooms.{IsHome, StaysAt, room_transition};
 ghost use Rattle.pot_outside.specs.Counts.{Caused};
 ghost use Rattle.pot_session.specs.Recovering.{AddsSlot, AreHeldIn, FailsOr, FindsObjects};
 ghost use Rattle.pot_session.specs.Recovering.{GathersBlocks};
-ghost use Rattle.pot_session.specs.Recovering.{GiveObjects, GiveTooMany, ArchiveFailed, IsLost};
+ghost use Rattle.pot_session.specs.Recovering.{GiveObjects, GiveTooMany, ArchiveFailed, LostByRoom};
 ghost use Rattle.pot_session.specs.Recovering.{IsRecovery, Recovers, SomeFailed, WasRead, WereRead};
 ghost use Rattle.pot_session.specs.Recovering.{most_chains};
 
@@ -112,7 +112,7 @@ fn read_archive<R: Room>(
         blocks.old.items blocks.new.items) }
     ensures read { IsTrue R.A.account.tells
         → WasRead ((R.meaning room.old).means number) ((R.meaning room.new).means number)
-        ⊎ IsLost (R.meaning room.old) (R.meaning room.new) number }
+        ⊎ LostByRoom (R.meaning room.old) (R.meaning room.new) number }
     ensures length { length blocks.new.items ≤ length blocks.old.items + stripes }
     ensures home { (R.meaning room.new).out number ≡ false }
     ensures others { (n : ℕ) → n ≢ number

@@ -1,4 +1,4 @@
-use Rattle.std.proofs.Common.{inl, inr, ◌≡◌, ◌++◌, ◌||◌, List, ap, ◌∙◌, subst}
+use Rattle.std.proofs.Common.{inl, inr, ◌≡◌, ◌||◌, List, ap, ◌∙◌, subst}
 use Rattle.std.specs.Prelude.{Bool, Ok, Err}
 use Rattle.pot_outside.specs.Accounts.{transition}
 use Rattle.pot_index.specs.declared.record.Record.{Record}

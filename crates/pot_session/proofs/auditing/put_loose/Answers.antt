@@ -1,5 +1,4 @@
 use Rattle.std.proofs.Common.{◌∙◌, subst}
-use Rattle.std.specs.Prelude.{◌==◌}
 use Rattle.pot_outside.specs.Accounts.{transition}
 use Rattle.pot_commands.specs.Streams.{Wrote}
 use Rattle.pot_session.specs.Listing.{Began}

@@ -1,4 +1,4 @@
-use Rattle.std.proofs.Common.{◌≡◌, List, inl, inr, [], refl, sym, ◌∙◌, subst, append-nil}
+use Rattle.std.proofs.Common.{List, inl, inr, [], refl, sym, ◌∙◌, subst, append-nil}
 use Rattle.std.specs.Prelude.{Err}
 use Rattle.pot_outside.specs.Accounts.{transition}
 use Rattle.pot_audit.specs.declared.spot.Spot.{Spot}

@@ -1,6 +1,6 @@
 use Rattle.std.proofs.Common.{All}
-use Rattle.pots_racks.specs.Catalog.{IsLine}
+use Rattle.pots_racks.specs.Catalog.{IsCatalogLine}
 use Rattle.pots_racks.proofs.catalog_reading.lines_in.Given as goal
 
 abbrev pub invariant-loop-bytes : goal.invariant-loop-bytes
-invariant-loop-bytes l = All IsLine l.lines.items
+invariant-loop-bytes l = All IsCatalogLine l.lines.items

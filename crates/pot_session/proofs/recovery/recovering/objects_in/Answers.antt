@@ -1,4 +1,4 @@
-use Rattle.std.proofs.Common.{ℕ, List, length, Result, Ok, Err, IfOk, OnOk, subst, sym}
+use Rattle.std.proofs.Common.{ℕ, length, Result, Ok, Err, IfOk, OnOk, subst, sym}
 use Rattle.pot_recover.specs.Wide.{IsWithin}
 use Rattle.pot_recover.specs.Robust.{IsRobustlyWithin}
 use Rattle.pot_recover.specs.Open.{IsOpenlyWithin}
