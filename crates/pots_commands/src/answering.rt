@@ -182,7 +182,7 @@ fn do_it<X: Threads + Wait + Sync, P: Program>(
         Verb::Verify => verify::work(visit, words),
         Verb::RestoreDesk => restore_desk::work(visit, words),
         Verb::Sheet => sheet::work(visit, words),
-        Verb::Picture => picture::work(visit, words),
+        Verb::Picture => picture::work(sessions, visit, words),
         Verb::Racks => Err(no_racks(visit)),
         Verb::Completion => completion::work(visit, words),
     }

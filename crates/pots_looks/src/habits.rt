@@ -114,6 +114,38 @@ fn moment_in(line: &str, habit: Habit) -> Option<u64> {
     words.next()?.parse::<u64>().ok()
 }
 
+/// Lines of the days on which the vault was last checked and drilled, and a copy of its desk was
+/// last made.
+pub fn habit_lines(visit: &Visit) -> Result<String, Stop> {
+    let mut lines = String::new(visit.alloc());
+    for habit in ALL {
+        let line = habit_line(visit, habit)?;
+        lines.push_str(line.as_str())?;
+    }
+    Ok(lines)
+}
+
+// The line of the day on which this was last done.
+fn habit_line(visit: &Visit, habit: Habit) -> Result<String, Stop> {
+    let word = habit.word();
+    let of = if habit == Habit::Copy {
+        " of the desk"
+    } else {
+        ""
+    };
+    let moment = last(visit, habit)?;
+    let date = date_or(visit, moment, "never, as far as is known")?;
+    Ok(format!(in visit.alloc(); "last {word}{of}: {date}\n")?)
+}
+
+// The day of a moment, or these words where there is none.
+fn date_or(visit: &Visit, moment: Option<u64>, words: &str) -> Result<String, Stop> {
+    Ok(match moment {
+        Some(seconds) => date_text(visit.alloc(), seconds)?,
+        None => String::from_str(visit.alloc(), words)?,
+    })
+}
+
 /// Tells when the vault was last checked and drilled, and when a copy of its desk was last made.
 pub fn tell_habits(visit: &Visit) -> Result<(), Stop> {
     for habit in ALL {
@@ -125,10 +157,7 @@ pub fn tell_habits(visit: &Visit) -> Result<(), Stop> {
 
 fn tell_habit(visit: &Visit, habit: Habit, moment: Option<u64>) -> Result<(), Stop> {
     let word = habit.word();
-    let date = match moment {
-        Some(seconds) => date_text(visit.alloc(), seconds)?,
-        None => String::from_str(visit.alloc(), "not known")?,
-    };
+    let date = date_or(visit, moment, "not known")?;
     let date = date.as_str();
     if visit.json {
         let line = json!(in visit.alloc(); {"last": word, "date": date})?;

@@ -15,7 +15,7 @@ mod verifying;
 mod where_they_lie;
 
 pub use habits::{Habit, remember, tell_habits};
-pub use picture::page_text;
+pub use picture::{SeenBy, page_text};
 pub use restoring::restore;
 pub use sheet::sheet_text;
 pub use verifying::verify_archives;

@@ -1,7 +1,9 @@
-//! A page that shows a vault: its places, groups and archives, and the emergency sheet.
+//! A page that shows a vault: its places, groups and archives, who sees which files, when it was
+//! last looked after, and the emergency sheet.
 //!
 //! It has no script and asks for nothing from outside. Text that comes from paths is escaped.
 
+use crate::habits::habit_lines;
 use crate::sheet::sheet_text;
 use pot_image::Image;
 use pot_looks::escape;
@@ -33,8 +35,21 @@ there, that are lost, and slots that are free, by the desk.</p>
 <table>
 ";
 
-/// What stands between the map and the sheet.
+/// What stands between the map and the rows of who sees which files.
+const SEEN: &str = "</table>
+<h2>Who has all archives of these places sees these files</h2>
+<p>A file counts where a piece of it is exposed, by the desk: pots audit tells of each.</p>
+<table>
+<tr><th>places</th><th>files that are exposed</th></tr>
+";
+
+/// What stands behind the last table.
 const MIDDLE: &str = "</table>
+<pre>
+";
+
+/// What stands between the days of the last looks and the sheet.
+const LAST: &str = "</pre>
 <pre>
 ";
 
@@ -44,13 +59,28 @@ const TAIL: &str = "</pre>
 </html>
 ";
 
-/// The page.
-pub fn page_text(visit: &mut Visit) -> Result<String, Stop> {
+/// What who has all archives of some places sees.
+#[derive(Drop)]
+pub struct SeenBy {
+    /// The places, as the page names them.
+    pub places: String,
+    /// How many files there are.
+    pub files: usize,
+    /// How many of them are exposed.
+    pub exposed: usize,
+}
+
+/// The page. Where nothing is known of who sees which files, it has no table of that.
+pub fn page_text(visit: &mut Visit, seen: &[SeenBy]) -> Result<String, Stop> {
     let sheet = sheet_text(visit)?;
     let image = image(visit)?;
+    let habits = habit_lines(visit)?;
     let mut page = String::from_str(visit.alloc(), HEAD)?;
     append_map(visit, &mut page, &image)?;
+    append_seen(visit, &mut page, seen)?;
     page.push_str(MIDDLE)?;
+    append_escaped(visit, &mut page, habits.as_str())?;
+    page.push_str(LAST)?;
     append_escaped(visit, &mut page, sheet.as_str())?;
     page.push_str(TAIL)?;
     Ok(page)
@@ -100,6 +130,27 @@ fn append_cell(
     let text = format!(in visit.alloc();
         "\">archive {number}, {kind}<br>{letter}: {live}, {gone}, {free}</td>\n"
     )?;
+    page.push_str(text.as_str())?;
+    Ok(())
+}
+
+// A row for each that has all archives of some places.
+fn append_seen(visit: &Visit, page: &mut String, seen: &[SeenBy]) -> Result<(), Stop> {
+    if !seen.is_empty() {
+        page.push_str(SEEN)?;
+    }
+    for by in seen {
+        append_seen_row(visit, page, by)?;
+    }
+    Ok(())
+}
+
+fn append_seen_row(visit: &Visit, page: &mut String, by: &SeenBy) -> Result<(), Stop> {
+    let files = by.files;
+    let exposed = by.exposed;
+    page.push_str("<tr><td>")?;
+    append_escaped(visit, page, by.places.as_str())?;
+    let text = format!(in visit.alloc(); "</td><td>{exposed} of {files}</td></tr>\n")?;
     page.push_str(text.as_str())?;
     Ok(())
 }

@@ -63,7 +63,7 @@ fn append_head(visit: &Visit, text: &mut String, rack: &Rack) -> Result<(), Stop
     append_part(
         text,
         format!(in visit.alloc();
-            "The archives of any {need} of {places} places give every file; who has fewer learns how long files are. {spare} places may be gone."
+            "While at most {spare} of {places} places are gone, the archives of the others give every file. Who has fewer than {need} places learns how long files are."
         )?.as_str(),
     )
 }
@@ -200,13 +200,13 @@ fn append_named_gone(text: &mut String) -> Result<(), Stop> {
 }
 
 fn append_place_gone(visit: &Visit, text: &mut String, rack: &Rack) -> Result<(), Stop> {
-    let need = rack.geometry.need;
+    let spare = rack.geometry.shards.saturating_sub(rack.geometry.need);
     text.push_str("A PLACE IS GONE, with archives N,N,.. on its disks\n")?;
     text.push_str("  pots fetch --without N,N,.. --all --to ../back\n")?;
     append_part(
         text,
         format!(in visit.alloc();
-            "  The archives of any {need} places that are left give all files. Store them in a new vault, in another folder, or give them new shards with pots renew."
+            "  While at most {spare} places are gone, the archives of the others give all files. Store them in a new vault, in another folder, or give them new shards with pots renew."
         )?.as_str(),
     )
 }

@@ -42,18 +42,7 @@ pub fn audit_archives<X: Threads + Wait + Sync, P: Program>(
     numbers: &[u32],
 ) -> Result<u8, Stop> {
     let image = image(visit)?;
-    let line = audit_line(visit, &image, numbers)?;
-    let words = words_of(visit.alloc(), line.as_str())?;
-    let ran = call(sessions, visit, &words, Vec::new(visit.alloc()))?;
-    if ran.status > 1 {
-        return Err(ended(visit, &ran));
-    }
-    let Some(Exposures { files, loose }) = read_exposures(visit.alloc(), &ran.written)? else {
-        return Err(visit.refuse(
-            5,
-            "what the audit says was not understood: pots and potshards are of different versions",
-        ));
-    };
+    let (status, Exposures { files, loose }) = exposures_of(sessions, visit, &image, numbers)?;
     for (name, exposure) in files.iter() {
         tell_exposure(visit, name, exposure)?;
     }
@@ -61,7 +50,29 @@ pub fn audit_archives<X: Threads + Wait + Sync, P: Program>(
     for column in loose.iter() {
         tell_loose(visit, &holdings, column)?;
     }
-    Ok(ran.status)
+    Ok(status)
+}
+
+/// The status of the audit of who has these archives, and what it says.
+pub(crate) fn exposures_of<X: Threads + Wait + Sync, P: Program>(
+    sessions: &Sessions<'_, X, P>,
+    visit: &mut Visit,
+    image: &Image,
+    numbers: &[u32],
+) -> Result<(u8, Exposures), Stop> {
+    let line = audit_line(visit, image, numbers)?;
+    let words = words_of(visit.alloc(), line.as_str())?;
+    let ran = call(sessions, visit, &words, Vec::new(visit.alloc()))?;
+    if ran.status > 1 {
+        return Err(ended(visit, &ran));
+    }
+    match read_exposures(visit.alloc(), &ran.written)? {
+        Some(exposures) => Ok((ran.status, exposures)),
+        None => Err(visit.refuse(
+            5,
+            "what the audit says was not understood: pots and potshards are of different versions",
+        )),
+    }
 }
 
 // The command line of the audit, with the columns that these archives serve.
